@@ -102,13 +102,12 @@ walk_came : (m : Memory) (size n : ℕ) (ls : List Load) (a : Ahead) (f : Found)
     reads_in m size (suc n) a ≡ all_came ls
 unfolding found_exactly
 walk_came m size n [] (Ends g) f le sound are e = refl
-walk_came m size n [] (Reads v) f le sound are e = absurd (cc)
-walk_came m size n (l ∷ ls) (Ends g) f le sound are e = absurd (cc)
 walk_came m size zero (l ∷ ls) (Reads v) f le sound are e = absurd (omega arith)
 walk_came m size (suc n) (l ∷ ls) (Reads v) f le sound are e =
     step_came m size n v l ls f (l.address == entry_address v && is_whole 16 l.came) sound refl are.0
     (λ x h. walk_came m size n ls (ahead_after size v (step_by size v l)) x (omega (arith, le))
     (sound_next size (step_by size v l) (next_visit v (step_by size v l))) are.1 h) e
+walk_came m size n _ _ f le sound are e = absurd (cc)
 
 pub walks_read : WalksReadTheirLoads
 walks_read m q head ls f are e =
@@ -133,8 +132,7 @@ no_loads : (q : Queue) (index entry : Option (List ℕ)) (ls : List Load) (reque
     without_loads index entry ls request x ≡ Some o →
     [] ≡ came_at (avail_index_at q) index ++ came_at (ring_entry_at q) entry ++ all_came ls ++ request_came q ls request o
 no_loads q None None ls request x o e = sym (no_chain q ls request x o e)
-no_loads q None (Some c) ls request x o e = absurd (cc)
-no_loads q (Some c) entry ls request x o e = absurd (cc)
+no_loads q _ _ ls request x o e = absurd (cc)
 
 -- ---- the ring
 
@@ -229,11 +227,9 @@ record RingCame (m : Memory) (q : Queue) (index entry : Option (List ℕ)) (w : 
 reported : (P : NextAvail → Type 0) (entry : Option (List ℕ)) (one two w : NextAvail) (a b c : Bool) → (b ≡ false → entry ≡ None → P one) →
     (b ≡ true → P two) →
     (if not a then None else if not b then without_entry entry one else if not c then None else Some two) ≡ Some w → P w
-reported P entry one two w false b c p s e = absurd (cc)
 reported P None one two w true false c p s e = let same : one ≡ w = cc in subst P same (p refl refl)
-reported P (Some bs) one two w true false c p s e = absurd (cc)
-reported P entry one two w true true false p s e = absurd (cc)
 reported P entry one two w true true true p s e = let same : two ≡ w = cc in subst P same (s refl)
+reported P _ one two w _ _ _ p s e = absurd (cc)
 
 ring_came : (m : Memory) (q : Queue) (index entry : Option (List ℕ)) (w : NextAvail) → IsLoadOf m 2 (index_load q index) →
     (asks_entry (alone q index) ≡ true → IsLoadOf m 2 (entry_load q entry)) →

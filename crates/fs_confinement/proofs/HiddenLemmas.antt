@@ -299,8 +299,6 @@ affect_hides block s (run.SetLayout layout) answer after leaves e t =
     (whichever block (not (list_all (is_known s.memory.host) layout)) _ _ e
     (whichever block (not (list_all fits layout)) _ _ e
     (whichever block (some_overlap layout) _ _ e (negated (list_any (is_of block) layout) leaves))))
-affect_hides block s (run.Map iova target n perm) answer after leaves e t = table_hides block s _ _ answer after t e
-affect_hides block s (run.Unmap iova n) answer after leaves e t = table_hides block s _ _ answer after t e
 affect_hides block s run.UnmapAll answer after leaves e t = table_hides block s true nothing_mapped answer after t e
 affect_hides block s (run.SetIommu on) answer after leaves e t = by_effect block (run.set_iommu s on) answer after t e
 affect_hides block s (run.Kick i most) answer after leaves e t = absurd t
@@ -309,6 +307,7 @@ affect_hides block s (run.ResetQueue queue size desc avail used) answer after le
     (reset_hides block s queue (fresh size desc avail used) (slice_get s.queues queue) e)
 affect_hides block s run.Image answer after leaves e t = absurd (cc)
 affect_hides block s run.Harvest answer after leaves e t = absurd (cc)
+affect_hides block s _ answer after leaves e t = table_hides block s _ _ answer after t e
 
 -- ---- commands
 
@@ -386,13 +385,12 @@ run_misses : {F : Type 0} (may : May F) (block : ℕ) (s after : State F) (event
     Misses block (run_touches may s events all_reported after ran)
 unfolding RunReported run_touches
 run_misses may block s after [] [] ran leaves e = misses_nothing block
-run_misses may block s after [] (reported ∷ all_reported) ran leaves e = absurd ran
-run_misses may block s after (v ∷ vs) [] ran leaves e = absurd ran
 run_misses may block s after (v ∷ vs) (reported ∷ all_reported) (mid, performs, rest) leaves e =
     let parts = both_true (leaves_hidden block v.0) (list_all (leaves_hidden block) (map (λ e. e.0) vs)) leaves in
     misses_both block (command_touches may s v.0 reported v.1 mid performs) (run_touches may mid vs all_reported after rest)
     (command_misses may block s v.0 reported v.1 mid performs e)
     (run_misses may block mid after vs all_reported rest parts.1 (performs_hides may block s v.0 reported v.1 mid parts.0 e performs))
+run_misses may block s after _ _ ran leaves e = absurd ran
 
 -- a command that leaves a block hidden answers no bytes of all blocks
 no_copy : (block : ℕ) (command : Command) → IsTrue (leaves_hidden block command) → IsTrue (not (copies command))
@@ -439,9 +437,8 @@ agree_outside block a b ps differ out other offset is =
 -- the commands of a run that was answered
 zip_firsts : (cs : List Command) (as' : List Answer) → length cs ≡ length as' → map (λ (e : Command × Answer). e.0) (zip cs as') ≡ cs
 zip_firsts [] [] e = refl
-zip_firsts [] (a ∷ as') e = absurd (cc)
-zip_firsts (c ∷ cs) [] e = absurd (cc)
 zip_firsts (c ∷ cs) (a ∷ as') e = ap (λ (xs : List Command). c ∷ xs) (zip_firsts cs as' (cc))
+zip_firsts _ _ e = absurd (cc)
 
 -- from an answered run, what another host allows
 pub keeps_secret : {F : Type 0} (may : May F) → HiddenBlocksAreSecret may →

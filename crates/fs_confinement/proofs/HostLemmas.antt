@@ -31,28 +31,22 @@ changed_after {X} {Y} f g h (x ∷ l) zero e = ap (λ (y : Y). y ∷ map f l) (e
 changed_after {X} {Y} f g h (x ∷ l) (suc i) e = ap (λ (r : List Y). f x ∷ r) (changed_after f g h l i e)
 
 changed_here : {X : Type 0} (l : List X) (i : ℕ) (f : X → X) → slice_get (changed_at l i f) i ≡ option_map f (slice_get l i)
-changed_here [] i f = refl
-changed_here (x ∷ l) zero f = refl
 changed_here (x ∷ l) (suc i) f = changed_here l i f
+changed_here _ _ f = refl
 
 changed_there : {X : Type 0} (l : List X) (i j : ℕ) (f : X → X) → i ≢ j → slice_get (changed_at l i f) j ≡ slice_get l j
-changed_there [] i j f apart = refl
 changed_there (x ∷ l) zero zero f apart = absurd (apart refl)
-changed_there (x ∷ l) zero (suc j) f apart = refl
-changed_there (x ∷ l) (suc i) zero f apart = refl
 changed_there (x ∷ l) (suc i) (suc j) f apart = changed_there l i j f (λ e. apart (ap suc e))
+changed_there _ _ _ f apart = refl
 
 set_here : (l : List ℕ) (i x : ℕ) → slice_get (slice_set l i x) i ≡ option_map (λ _. x) (slice_get l i)
-set_here [] i x = refl
-set_here (y ∷ l) zero x = refl
 set_here (y ∷ l) (suc i) x = set_here l i x
+set_here _ _ x = refl
 
 set_there : (l : List ℕ) (i j x : ℕ) → i ≢ j → slice_get (slice_set l i x) j ≡ slice_get l j
-set_there [] i j x apart = refl
 set_there (y ∷ l) zero zero x apart = absurd (apart refl)
-set_there (y ∷ l) zero (suc j) x apart = refl
-set_there (y ∷ l) (suc i) zero x apart = refl
 set_there (y ∷ l) (suc i) (suc j) x apart = set_there l i j x (λ e. apart (ap suc e))
+set_there _ _ _ x apart = refl
 
 -- ---- sets of places
 
@@ -128,10 +122,9 @@ there_alike g h same block offset =
 
 whatever :
     (x : ℕ) (o p : Option ℕ) → option_map {U = ℕ} (λ _. 0) o ≡ option_map {U = ℕ} (λ _. 0) p → option_map (λ _. x) o ≡ option_map (λ _. x) p
-whatever x None None e = refl
 whatever x None (Some b) e = absurd (cc)
 whatever x (Some a) None e = absurd (cc)
-whatever x (Some a) (Some b) e = refl
+whatever x _ _ e = refl
 
 marks_stay : (offset : ℕ) (marks : Block → List Bool) (o : Option Block) →
     byte_in_block offset (option_map (λ (b : Block). record b { marks = marks b }) o) ≡ byte_in_block offset o
@@ -338,10 +331,9 @@ more_same : (l k : List Block) (b : Block) (block offset : ℕ) → map zeroed l
     byte_in_block offset (slice_get l block) ≡ byte_in_block offset (slice_get k block) →
     byte_in_block offset (slice_get (l ++ b ∷ []) block) ≡ byte_in_block offset (slice_get (k ++ b ∷ []) block)
 more_same [] [] b block offset same e = refl
-more_same [] (y ∷ k) b block offset same e = absurd (cc)
-more_same (x ∷ l) [] b block offset same e = absurd (cc)
 more_same (x ∷ l) (y ∷ k) b zero offset same e = e
 more_same (x ∷ l) (y ∷ k) b (suc block) offset same e = more_same l k b block offset (cc) e
+more_same _ _ b block offset same e = absurd (cc)
 
 pub block_keeps : (g h : Host) (b : Block) → without_bytes g ≡ without_bytes h → KeepDifference g h (with_block g b) (with_block h b) []
 block_keeps g h b same = record {

@@ -17,7 +17,7 @@ use Rattle.fs_queue.specs.NextAvail.{NextAvail, next_avail}
 use Rattle.fs_queue.specs.NextAvail as avail
 use Rattle.fs_queue.specs.Chain.{Descriptor, Visit, entry_address, WalkStep, walk_step, next_visit, onward, path, walk, first_visit}
 use Rattle.fs_queue.specs.Chain.{after_walk_step, Found, IsChain}
-use Rattle.fs_queue.specs.Chain.{HasFault, StopsQueue, found, chain}
+use Rattle.fs_queue.specs.Chain.{found, chain}
 use Rattle.fs_queue.specs.Loads.{Load, reads_entry}
 use Rattle.fs_queue.specs.Taking.{RequestAndRoom, IsRequest, CannotFetch, readable, writable, total_len, all_reach, request_and_room, Offer}
 use Rattle.fs_queue.specs.Taking.{Idle, Refuses, Offers, offer_of, on_next_avail, offer}
@@ -41,13 +41,11 @@ ring_same : (t0 t1 r2 t2 u2 : Bool) (hd hd' : ℕ) → (t0 ≡ false → t1 ≡ 
     else if t2 then avail.Refused stop.HeadOutOfTable else avail.Head hd)
     (if t0 then avail.Idle else if t1 then avail.Refused stop.AvailTooFar else if not r2 then avail.Refused stop.RingEntryUnreachable
     else if u2 then avail.Refused stop.HeadOutOfTable else avail.Head hd')
-ring_same true t1 r2 t2 u2 hd hd' same = refl
-ring_same false true r2 t2 u2 hd hd' same = refl
-ring_same false false false t2 u2 hd hd' same = refl
 ring_same false false true t2 u2 hd hd' same =
     let is = same refl refl refl in
     ap (λ (b : Bool). if b then avail.Refused stop.HeadOutOfTable else avail.Head hd) is.0
     ∙ ap (λ (k : ℕ). if u2 then avail.Refused stop.HeadOutOfTable else avail.Head k) is.1
+ring_same _ _ _ t2 u2 hd hd' same = refl
 
 module _ (m : Memory) (h : Host) (same : without_bytes m.host ≡ without_bytes h) where
   -- the same memory over the other host
@@ -158,11 +156,9 @@ module _ (m : Memory) (h : Host) (same : without_bytes m.host ≡ without_bytes 
       (if t0 then avail.Idle else if t1 then avail.Refused stop.AvailTooFar else if not r2 then avail.Refused stop.RingEntryUnreachable
       else if t2 then avail.Refused stop.HeadOutOfTable else avail.Head hd)) →
       Agree (addresses (avail_index_at q) 2)
-  index_read q true t1 r2 t2 hd agree = agree
-  index_read q false true r2 t2 hd agree = agree
-  index_read q false false false t2 hd agree = agree
   index_read q false false true true hd agree = (agree-append (addresses (avail_index_at q) 2) (addresses (ring_entry_at q) 2) agree).0
   index_read q false false true false hd agree = (agree-append (addresses (avail_index_at q) 2) (addresses (ring_entry_at q) 2) agree).0
+  index_read q _ _ _ t2 hd agree = agree
 
   entry_read : (q : Queue) (t0 t1 r2 t2 : Bool) (hd : ℕ) → t0 ≡ false → t1 ≡ false → r2 ≡ true →
       Agree (ring_reads q
@@ -173,9 +169,7 @@ module _ (m : Memory) (h : Host) (same : without_bytes m.host ≡ without_bytes 
       (agree-append (addresses (avail_index_at q) 2) (addresses (ring_entry_at q) 2) agree).1
   entry_read q false false true false hd none near there agree =
       (agree-append (addresses (avail_index_at q) 2) (addresses (ring_entry_at q) 2) agree).1
-  entry_read q true t1 r2 t2 hd none near there agree = absurd (cc)
-  entry_read q false true r2 t2 hd none near there agree = absurd (cc)
-  entry_read q false false false t2 hd none near there agree = absurd (cc)
+  entry_read q _ _ _ t2 hd none near there agree = absurd (cc)
 
   -- what waits, by the tests of the index, the entry and the memory in which they are looked for
   abbrev waits_so : (r1 : Bool) → (waiting : ℕ) → (r2 : Bool) → (head : ℕ) → Queue → NextAvail
@@ -229,11 +223,9 @@ module _ (m : Memory) (h : Host) (same : without_bytes m.host ≡ without_bytes 
   request_so : (q : Queue) (hd : ℕ) (over reads writes : Bool) (bs cs room : List ℕ) → (Agree (request_reads (chain m q hd)) → bs ≡ cs) →
       Agree (chain_reads m q hd (Offers hd (fetched_so over reads writes bs room))) →
       fetched_so over reads writes bs room ≡ fetched_so over reads writes cs room
-  request_so q hd true reads writes bs cs room same agree = refl
-  request_so q hd false false writes bs cs room same agree = refl
-  request_so q hd false true false bs cs room same agree = refl
   request_so q hd false true true bs cs room same agree =
       ap (λ (r : List ℕ). IsRequest r room) (same (agree-append (walk_reads m q hd) (request_reads (chain m q hd)) agree).1)
+  request_so q hd _ _ _ bs cs room same agree = refl
 
   fetched_same : (q : Queue) (hd limit : ℕ) (ds : List Descriptor) → chain m q hd ≡ IsChain ds →
       Agree (chain_reads m q hd (Offers hd (request_and_room m limit ds))) →
@@ -253,8 +245,7 @@ module _ (m : Memory) (h : Host) (same : without_bytes m.host ≡ without_bytes 
   offer_of_same : (q : Queue) (hd limit : ℕ) (f : Found) → chain m q hd ≡ f → Agree (chain_reads m q hd (offer_of m limit hd f)) →
       offer_of m limit hd f ≡ offer_of n limit hd f
   offer_of_same q hd limit (IsChain ds) is agree = ap (Offers hd) (fetched_same q hd limit ds is agree)
-  offer_of_same q hd limit (HasFault fault) is agree = refl
-  offer_of_same q hd limit StopsQueue is agree = refl
+  offer_of_same q hd limit _ is agree = refl
 
   walk_fetched : (q : Queue) (hd : ℕ) (r : RequestAndRoom) → Agree (chain_reads m q hd (Offers hd r)) → Agree (walk_reads m q hd)
   walk_fetched q hd (IsRequest request room) agree = (agree-append (walk_reads m q hd) (request_reads (chain m q hd)) agree).0
@@ -263,8 +254,7 @@ module _ (m : Memory) (h : Host) (same : without_bytes m.host ≡ without_bytes 
   -- whatever a walk finds, it was read
   walk_read : (q : Queue) (hd limit : ℕ) (f : Found) → Agree (chain_reads m q hd (offer_of m limit hd f)) → Agree (walk_reads m q hd)
   walk_read q hd limit (IsChain ds) agree = walk_fetched q hd (request_and_room m limit ds) agree
-  walk_read q hd limit (HasFault fault) agree = agree
-  walk_read q hd limit StopsQueue agree = agree
+  walk_read q hd limit _ agree = agree
 
   -- by whether a return lacks the places to be written, or the flags
   abbrev head_so : (k : Memory) → (limit : ℕ) → Queue → (hd : ℕ) → (used flags : Bool) → Offer
@@ -274,22 +264,20 @@ module _ (m : Memory) (h : Host) (same : without_bytes m.host ≡ without_bytes 
 
   head_same : (limit : ℕ) (q : Queue) (hd : ℕ) (used flags : Bool) → Agree (chain_reads m q hd (head_so m limit q hd used flags)) →
       head_so m limit q hd used flags ≡ head_so n limit q hd used flags
-  head_same limit q hd true flags agree = refl
-  head_same limit q hd false true agree = refl
   head_same limit q hd false false agree =
       offer_of_same q hd limit (chain m q hd) refl agree
       ∙ ap (offer_of n limit hd) (chain_same q hd (walk_read q hd limit (chain m q hd) agree))
+  head_same limit q hd _ _ agree = refl
 
   waits_same : (limit : ℕ) (q : Queue) (w : NextAvail) → Agree (waiting_reads m q w (on_next_avail m limit q w)) →
       on_next_avail m limit q w ≡ on_next_avail n limit q w
-  waits_same limit q avail.Idle agree = refl
-  waits_same limit q (avail.Refused e) agree = refl
   waits_same limit q (avail.Head hd) agree =
       head_same limit q hd (not (reach m Write (element_at q) 8 && reach m Write (index_at q) 2)) (not (reach m Read q.avail 2)) agree
       ∙ ap (λ (f : ℕ → ℕ → Bool). head_so n limit q hd (not (f (element_at q) 8 && f (index_at q) 2)) (not (reach m Read q.avail 2)))
       (reach_same Write)
       ∙ ap (λ (f : ℕ → ℕ → Bool). head_so n limit q hd (not (reach n Write (element_at q) 8 && reach n Write (index_at q) 2))
       (not (f q.avail 2))) (reach_same Read)
+  waits_same limit q _ agree = refl
 
   -- what is read by an offer is read by it over the other host
   chain_reads_same : (q : Queue) (hd : ℕ) (o : Offer) → Agree (chain_reads m q hd o) → chain_reads m q hd o ≡ chain_reads n q hd o
@@ -299,14 +287,12 @@ module _ (m : Memory) (h : Host) (same : without_bytes m.host ≡ without_bytes 
       ∙ ap (λ (f : Found). walk_reads n q hd ++ request_reads f) (chain_same q hd parts.0)
   chain_reads_same q hd (Offers k (CannotFetch why)) agree = walk_reads_same q hd agree
   chain_reads_same q hd (Refuses stop.DescriptorUnreachable) agree = walk_reads_same q hd agree
-  chain_reads_same q hd (Refuses _) agree = refl
-  chain_reads_same q hd Idle agree = refl
+  chain_reads_same q hd _ agree = refl
 
   waiting_reads_same :
       (q : Queue) (w : NextAvail) (o : Offer) → Agree (waiting_reads m q w o) → waiting_reads m q w o ≡ waiting_reads n q w o
-  waiting_reads_same q avail.Idle o agree = refl
-  waiting_reads_same q (avail.Refused e) o agree = refl
   waiting_reads_same q (avail.Head hd) o agree = chain_reads_same q hd o agree
+  waiting_reads_same q _ o agree = refl
 
   abbrev offer_so : (k : Memory) → (limit : ℕ) → Queue → Bool → Offer
   offer_so k limit q stopped = if stopped then Refuses stop.Stopped else on_next_avail k limit q (next_avail k q)

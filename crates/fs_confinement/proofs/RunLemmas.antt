@@ -73,17 +73,15 @@ long_alike b c is =
 proceeds_alike : (layout : List Region) (base block : ℕ) (o p : Option Block) → option_map zeroed o ≡ option_map zeroed p →
     block_fits_in layout base block o ≡ block_fits_in layout base block p
 proceeds_alike layout base block None None is = refl
-proceeds_alike layout base block None (Some c) is = absurd (cc)
-proceeds_alike layout base block (Some b) None is = absurd (cc)
 proceeds_alike layout base block (Some b) (Some c) is =
     ap (λ (n : ℕ). fits_in layout (record { start = base; size = n; block = block })) (long_alike b c is)
+proceeds_alike layout base block _ _ is = absurd (cc)
 
 -- the addresses that are written
 zip_firsts : (as' bs : List ℕ) → length as' ≡ length bs → map (λ (w : ℕ × ℕ). w.0) (zip as' bs) ≡ as'
 zip_firsts [] [] e = refl
-zip_firsts [] (b ∷ bs) e = absurd (cc)
-zip_firsts (a ∷ as') [] e = absurd (cc)
 zip_firsts (a ∷ as') (b ∷ bs) e = ap (λ (xs : List ℕ). a ∷ xs) (zip_firsts as' bs (cc))
+zip_firsts _ _ e = absurd (cc)
 
 and_true : (a b : Bool) → IsTrue (a && b) → IsTrue a × IsTrue b
 and_true true b e = (refl, e)
@@ -142,12 +140,11 @@ module _ {F : Type 0} (s : State F) (h : Host) (same : without_bytes s.memory.ho
   region_follows : (base block : ℕ) (o p : Option Block) → option_map zeroed o ≡ option_map zeroed p →
       Same (insert_block s base block o) (insert_block (with_host s h) base block p)
   region_follows base block None None is = refused_follows why.UnknownBlock
-  region_follows base block None (Some c) is = absurd (cc)
-  region_follows base block (Some b) None is = absurd (cc)
   region_follows base block (Some b) (Some c) is =
       subst (λ (n : ℕ). Same (insert_block s base block (Some b))
       (insert (with_host s h) (record { start = base; size = n; block = block }))) (long_alike b c is)
       (insert_follows (record { start = base; size = length b.bytes; block = block }))
+  region_follows base block _ _ is = absurd (cc)
 
   there_alike : (block : ℕ) → option_map zeroed (slice_get s.memory.host.blocks block) ≡ option_map zeroed (slice_get h.blocks block)
   there_alike block = sym (slice_get-map zeroed s.memory.host.blocks block) ∙ ap (λ (k : Host). slice_get k.blocks block) same
@@ -297,8 +294,7 @@ module _ {F : Type 0} (s : State F) (h : Host) (same : without_bytes s.memory.ho
   affect_follows (run.Kick i most) answer after few agree t = absurd t
   affect_follows (run.ResetQueue queue size desc avail used) answer after few agree t =
       decided_follows [] _ _ answer after (reset_follows queue (fresh size desc avail used) _) t
-  affect_follows run.Image answer after few agree t = absurd (cc)
-  affect_follows run.Harvest answer after few agree t = absurd (cc)
+  affect_follows _ answer after few agree t = absurd (cc)
 
   effect_follows : (command : Command) (reported : Turns) (answer : Answer) (after : State F) → IsTrue (not (copies command)) →
       AgreeOn s.memory.host h (plain_touches s command answer).read →
@@ -324,10 +320,8 @@ module _ {F : Type 0} (s : State F) (h : Host) (same : without_bytes s.memory.ho
   plain_same : (command : Command) (answer : Answer) → plain_touches (with_host s h) command answer ≡ plain_touches s command answer
   plain_same (run.GuestRead a n) (run.Bytes bytes) =
       ap (λ (k : Memory). record { read = places_for k Read (addresses a n); written = [] }) (sym physical_bare)
-  plain_same (run.GuestRead a n) _ = refl
   plain_same (run.GuestWrite a bytes) run.Done =
       ap (λ (k : Memory). record { read = []; written = places_for k Write (addresses a (length bytes)) }) (sym physical_bare)
-  plain_same (run.GuestWrite a bytes) _ = refl
   plain_same _ answer = refl
 
 -- ---- commands

@@ -7,8 +7,7 @@ use Rattle.vm_memory.specs.Memory.{Memory, addresses}
 use Rattle.fs_queue.specs.declared.fault.QueueError.TheVariants as stop
 use Rattle.fs_queue.specs.Queue.{Queue}
 use Rattle.fs_queue.specs.Returning.{writes, wants_notice}
-use Rattle.fs_queue.specs.Taking.{Offer, IsRequest, CannotFetch, Refuses, Offers, offer, after_refusal}
-use Rattle.fs_queue.specs.Taking as taking
+use Rattle.fs_queue.specs.Taking.{Offer, IsRequest, CannotFetch, Offers, offer, after_refusal}
 use Rattle.virtiofsd_fuse.specs.Serving.{May}
 use Rattle.plain_machine.specs.declared.error.DeviceError.{DeviceError}
 use Rattle.plain_machine.specs.declared.error.DeviceError.TheVariants as device
@@ -115,8 +114,7 @@ module _ {F : Type 0} (may : May F) (s : State F) (h : Host) (same : without_byt
         rest = back.rest;
         bytes = back.bytes;
       }
-  exchange_follows i q taking.Idle calls x notice after r agree = absurd r
-  exchange_follows i q (Refuses e) calls x notice after r agree = absurd r
+  exchange_follows i q _ calls x notice after r agree = absurd r
 
   act_follows : (i : ℕ) (q : Queue) (o : Offer) (calls : Calls) (outcome : StepEnd) (after : State F) →
       Acts may s i q o calls outcome after → Agree s.memory h same (flag_reads q outcome) →

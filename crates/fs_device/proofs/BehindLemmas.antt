@@ -134,8 +134,7 @@ filled_left ws at = filled-past at (rooms_of ws) (filled-filled (map (λ v. v.le
 sub_by : (a b : Bool) (w f : Window) (at n : ℕ) (d e : VolatileMemoryError) →
     Ok f ≡ (if a then if b then Ok (part_of w at n) else Err d else Err e) → f ≡ part_of w at n
 sub_by true true w f at n d e h = let same : f ≡ part_of w at n = cc in same
-sub_by true false w f at n d e h = absurd (cc)
-sub_by false b w f at n d e h = absurd (cc)
+sub_by _ _ w f at n d e h = absurd (cc)
 
 -- a part of a window that it has
 pub sub_is : (w f : Window) (at n : ℕ) → Ok f ≡ sub_window w at n → f ≡ part_of w at n

@@ -238,25 +238,6 @@ module _ (n : ℕ) (some : n ≢ 0) (s : Setting) (o : Option Opcode) where
       sym (replied_asks (nat_lt s.room (length bytes)) (readdir_call l ∷ []) s.options bytes) ∙ asks in
       unlisted l c (call.Failed errno) steps bytes (nat_lt s.room (length bytes)) (cc) suit.0 (cc)
       (ap (nodes_in o) (drop_error unique errno) ∙ none_in_nothing o)
-  list_given unique l c call.Done steps fits suit asks = unlisted l c call.Done steps [] false (cc) suit.0 (cc) (none_in_nothing o)
-  list_given unique l c (call.HasEntry e) steps fits suit asks =
-      unlisted l c (call.HasEntry e) steps [] false (cc) suit.0 (cc) (none_in_nothing o)
-  list_given unique l c (call.HasAttr attr timeout) steps fits suit asks =
-      unlisted l c (call.HasAttr attr timeout) steps [] false (cc) suit.0 (cc) (none_in_nothing o)
-  list_given unique l c (call.Opened handle options) steps fits suit asks =
-      unlisted l c (call.Opened handle options) steps [] false (cc) suit.0 (cc) (none_in_nothing o)
-  list_given unique l c (call.Created e handle options) steps fits suit asks =
-      unlisted l c (call.Created e handle options) steps [] false (cc) suit.0 (cc) (none_in_nothing o)
-  list_given unique l c (call.Bytes bytes) steps fits suit asks =
-      unlisted l c (call.Bytes bytes) steps [] false (cc) suit.0 (cc) (none_in_nothing o)
-  list_given unique l c (call.Count k) steps fits suit asks =
-      unlisted l c (call.Count k) steps [] false (cc) suit.0 (cc) (none_in_nothing o)
-  list_given unique l c (call.Stats st) steps fits suit asks =
-      unlisted l c (call.Stats st) steps [] false (cc) suit.0 (cc) (none_in_nothing o)
-  list_given unique l c (call.Wrote k) steps fits suit asks =
-      unlisted l c (call.Wrote k) steps [] false (cc) suit.0 (cc) (none_in_nothing o)
-  list_given unique l c (call.Offset k) steps fits suit asks =
-      unlisted l c (call.Offset k) steps [] false (cc) suit.0 (cc) (none_in_nothing o)
   list_given unique l c (call.Entries ds) steps fits suit asks =
       let w = list_entries l ds l.size (s.room - 16) (answers_alone steps) in
       let bytes = listing_bytes unique l.with_nodes w.bytes w.error in
@@ -265,8 +246,7 @@ module _ (n : ℕ) (some : n ≢ 0) (s : Setting) (o : Option Opcode) where
       let same : readdir_call l ≡ c = cc in
       subst (λ (c : FileCall). Balanced n o ((c, call.Entries ds) ∷ steps) 0 (list_ended s unique l w)) same
       (outcome_balances unique l ds steps l.with_nodes refl fits suit.1 (cc))
-  list_given unique l c (call.Wants options) steps fits suit asks =
-      unlisted l c (call.Wants options) steps [] false (cc) suit.0 (cc) (none_in_nothing o)
+  list_given unique l c a steps fits suit asks = unlisted l c a steps [] false (cc) suit.0 (cc) (none_in_nothing o)
 
   list_all : (unique : ℕ) (l : ListRequest) (calls : Calls) → ListFits s.room o l.with_nodes → EachSuits calls →
       (served s (grammar.Asks (Lists unique l)) (answers_alone calls)).calls ≡ calls_alone calls →
@@ -277,14 +257,10 @@ module _ (n : ℕ) (some : n ≢ 0) (s : Setting) (o : Option Opcode) where
   meaning_balances : (m : Meaning) (calls : Calls) → MeaningFits n s.room o m → EachSuits calls →
       (served s m (answers_alone calls)).calls ≡ calls_alone calls →
       Balanced n o calls (taken n calls m) (served s m (answers_alone calls))
-  meaning_balances (IsFault e) calls fits suit asks =
-      nothing_asked n o calls (IsFault e) (served s (IsFault e) (answers_alone calls)) asks (silent n o)
   meaning_balances (Replies bytes) calls fits suit asks =
       nothing_asked n o calls (Replies bytes) (served s (Replies bytes) (answers_alone calls))
       (sym (replied_asks (nat_lt s.room (length bytes)) [] s.options bytes) ∙ asks)
       (replied_nodes n o (nat_lt s.room (length bytes)) [] s.options bytes fits)
-  meaning_balances IsSilent calls fits suit asks =
-      nothing_asked n o calls IsSilent (served s IsSilent (answers_alone calls)) asks (silent n o)
   meaning_balances (grammar.Asks (One unique c)) calls fits suit asks = one_balances unique c calls fits suit asks
   meaning_balances (grammar.Asks (Starts unique capable readahead)) calls fits suit asks =
       subst (λ (k : ℕ). Balanced n o calls k (served s (grammar.Asks (Starts unique capable readahead)) (answers_alone calls)))
@@ -293,6 +269,7 @@ module _ (n : ℕ) (some : n ≢ 0) (s : Setting) (o : Option Opcode) where
   meaning_balances (grammar.Asks (Lists unique l)) calls fits suit asks =
       subst (λ (k : ℕ). Balanced n o calls k (served s (grammar.Asks (Lists unique l)) (answers_alone calls)))
       (sym (either_way (length calls == 0) 0)) (list_all unique l calls fits suit asks)
+  meaning_balances m calls fits suit asks = nothing_asked n o calls m (served s m (answers_alone calls)) asks (silent n o)
 
 -- ---- steps
 
@@ -328,8 +305,7 @@ exchange_balances may n some s i q (Offers head (IsRequest request room)) calls 
     let is : x ≡ served_exchange head request given = r.returns.exchange ∙ ap (served_exchange head request) r.serves.gives in
     subst (λ (y : Exchange). TurnBalances n (turn y notice calls)) (sym is)
     (subst (λ (k : ℕ). Balanced n (opcode_in request) calls k given) back bal)
-exchange_balances may n some s i q taking.Idle calls x notice after r = absurd r
-exchange_balances may n some s i q (Refuses e) calls x notice after r = absurd r
+exchange_balances may n some s i q _ calls x notice after r = absurd r
 
 step_balances : {F : Type 0} (may : May F) (n : ℕ) → n ≢ 0 →
     (s : State F) (i : ℕ) (o : Option Queue) (calls : Calls) (x : Exchange) (notice : Bool) (after : State F) →
@@ -373,47 +349,14 @@ does_balance :
 does_balance may n some s command [] answer after t = refl
 does_balance may n some s (run.Kick i most) (x ∷ reported) (run.Served k) after t =
     kicks_balance may n some s i most (slice_get s.queues i) (x ∷ reported) k after t
-does_balance may n some s (run.Kick i most) (x ∷ reported) run.Done after t = absurd t
-does_balance may n some s (run.Kick i most) (x ∷ reported) (run.Bytes bytes) after t = absurd t
-does_balance may n some s (run.Kick i most) (x ∷ reported) (run.NewBlockIs number) after t = absurd t
-does_balance may n some s (run.Kick i most) (x ∷ reported) (run.Copied host) after t = absurd t
-does_balance may n some s (run.Kick i most) (x ∷ reported) (run.Pages pages) after t = absurd t
-does_balance may n some s (run.Kick i most) (x ∷ reported) (run.IsRefused refusal) after t = absurd t
-does_balance may n some s (run.GuestRead a k) (x ∷ reported) answer after t = absurd t
-does_balance may n some s (run.GuestWrite a bs) (x ∷ reported) answer after t = absurd t
-does_balance may n some s (run.NewBlock k) (x ∷ reported) answer after t = absurd t
-does_balance may n some s (run.InsertRegion base block) (x ∷ reported) answer after t = absurd t
-does_balance may n some s (run.RemoveRegion base size) (x ∷ reported) answer after t = absurd t
-does_balance may n some s (run.SetLayout layout) (x ∷ reported) answer after t = absurd t
-does_balance may n some s (run.Map iova target k perm) (x ∷ reported) answer after t = absurd t
-does_balance may n some s (run.Unmap iova k) (x ∷ reported) answer after t = absurd t
-does_balance may n some s run.UnmapAll (x ∷ reported) answer after t = absurd t
-does_balance may n some s (run.SetIommu on) (x ∷ reported) answer after t = absurd t
-does_balance may n some s (run.ResetQueue queue size desc avail used) (x ∷ reported) answer after t = absurd t
-does_balance may n some s run.Image (x ∷ reported) answer after t = absurd t
-does_balance may n some s run.Harvest (x ∷ reported) answer after t = absurd t
+does_balance may n some s _ (x ∷ reported) _ after t = absurd t
 
 performs_balance :
     {F : Type 0} (may : May F) (n : ℕ) → n ≢ 0 → (s : State F) (command : Command) (reported : Turns) (answer : Answer) (after : State F) →
     Performs may s command reported answer after → ReportedBalances n reported
 performs_balance may n some s command [] (run.IsRefused why.OutOfMemory) after t = refl
 performs_balance may n some s command (x ∷ reported) (run.IsRefused why.OutOfMemory) after t = absurd t
-performs_balance may n some s command reported (run.IsRefused why.NoPlace) after t = does_balance may n some s command reported _ after t
-performs_balance may n some s command reported (run.IsRefused why.EmptyBlock) after t = does_balance may n some s command reported _ after t
-performs_balance may n some s command reported (run.IsRefused why.UnknownBlock) after t =
-    does_balance may n some s command reported _ after t
-performs_balance may n some s command reported (run.IsRefused why.BadRegion) after t = does_balance may n some s command reported _ after t
-performs_balance may n some s command reported (run.IsRefused why.Overlap) after t = does_balance may n some s command reported _ after t
-performs_balance may n some s command reported (run.IsRefused why.NoRegion) after t = does_balance may n some s command reported _ after t
-performs_balance may n some s command reported (run.IsRefused why.BadMapping) after t = does_balance may n some s command reported _ after t
-performs_balance may n some s command reported (run.IsRefused why.NoSuchQueue) after t =
-    does_balance may n some s command reported _ after t
-performs_balance may n some s command reported run.Done after t = does_balance may n some s command reported _ after t
-performs_balance may n some s command reported (run.Bytes bytes) after t = does_balance may n some s command reported _ after t
-performs_balance may n some s command reported (run.NewBlockIs number) after t = does_balance may n some s command reported _ after t
-performs_balance may n some s command reported (run.Served k) after t = does_balance may n some s command reported _ after t
-performs_balance may n some s command reported (run.Copied host) after t = does_balance may n some s command reported _ after t
-performs_balance may n some s command reported (run.Pages pages) after t = does_balance may n some s command reported _ after t
+performs_balance may n some s command reported _ after t = does_balance may n some s command reported _ after t
 
 -- a run balances
 pub run_balances :
@@ -422,8 +365,6 @@ pub run_balances :
     RunReported may s events all_reported after → IsBalanced n all_reported
 unfolding RunReported
 run_balances may n some s [] [] after t = refl
-run_balances may n some s [] (reported ∷ all_reported) after t = absurd t
-run_balances may n some s (e ∷ es) [] after t = absurd t
 run_balances may n some s (e ∷ es) (reported ∷ all_reported) after (mid, performs, rest) =
     let own = performs_balance may n some s e.0 reported e.1 mid performs in
     let others = run_balances may n some mid es all_reported after rest in
@@ -432,3 +373,4 @@ run_balances may n some s (e ∷ es) (reported ∷ all_reported) after (mid, per
     let c = sum_by-cons (λ (l : Turns). sum_by (written n) l) reported all_reported in
     let d = sum_by-cons (λ (l : Turns). sum_by (sent n) l) reported all_reported in
     omega (arith, own, others, a, b, c, d)
+run_balances may n some s _ _ after t = absurd t

@@ -140,9 +140,8 @@ pub record BlockTracks (a b : Block) : Type 0 where
 
 abbrev pub BlocksTrack : List Block → List Block → Type 0
 BlocksTrack [] [] = Unit {0}
-BlocksTrack [] (b ∷ bs) = ⊥
-BlocksTrack (a ∷ as') [] = ⊥
 BlocksTrack (a ∷ as') (b ∷ bs) = BlockTracks a b × BlocksTrack as' bs
+BlocksTrack _ _ = ⊥
 
 -- an image against a host: what differs lies on a marked page
 pub record Tracks (image host : Host) : Type 0 where
@@ -193,8 +192,6 @@ blocks_turn : (h : Host) (front xs ys : List Block) → BlocksTrack xs ys →
     pages_put (with_blocks h (front ++ xs)) (host_pages (length front) ys) ≡ with_blocks h (front ++ caught_up xs ys)
 unfolding pages_put host_pages
 blocks_turn h front [] [] f = refl
-blocks_turn h front [] (b ∷ ys) f = absurd f
-blocks_turn h front (a ∷ xs) [] f = absurd f
 blocks_turn h front (a ∷ xs) (b ∷ ys) f =
     let next = refilled a b.bytes in
     let one : front ++ next ∷ xs ≡ (front ++ next ∷ []) ++ xs = sym (append_assoc front (next ∷ []) xs) in
@@ -206,6 +203,7 @@ blocks_turn h front (a ∷ xs) (b ∷ ys) f =
     ∙ ap (λ n. pages_put (with_blocks h ((front ++ next ∷ []) ++ xs)) (host_pages n ys)) (sym count)
     ∙ blocks_turn h (front ++ next ∷ []) xs ys f.1
     ∙ ap (with_blocks h) (append_assoc front (next ∷ []) (caught_up xs ys))
+blocks_turn h front _ _ f = absurd f
 
 -- with the marked pages put in, an image has the bytes of the host
 pub harvest_restores :

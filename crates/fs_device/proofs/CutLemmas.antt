@@ -16,10 +16,8 @@ use Rattle.plain_machine.specs.Step.{ServesRequest}
 three : (a b c : Bool) (x y z : ChainFault) (request room bytes places : List ℕ) →
     (if a then CannotFetch x else if b then CannotFetch y else if c then CannotFetch z else IsRequest bytes places)
     ≡ IsRequest request room → (request ≡ bytes) × (room ≡ places)
-three true b c x y z request room bytes places e = absurd (cc)
-three false true c x y z request room bytes places e = absurd (cc)
-three false false true x y z request room bytes places e = absurd (cc)
 three false false false x y z request room bytes places e = (cc, cc)
+three _ _ _ x y z request room bytes places e = absurd (cc)
 
 asks_joined :
     (m : Memory) (limit : ℕ) (ds : List Descriptor) (request room : List ℕ) → request_and_room m limit ds ≡ IsRequest request room →

@@ -30,14 +30,7 @@ refused_of : {F : Type 0} (may : May F) (s after : State F) (i : ℕ) (o : Optio
 refused_of may s after i None e calls t = (t.0, record { same = t.1.same; no_call = refl })
 refused_of may s after i (Some q) device.NoSuchQueue calls t = absurd t
 refused_of may s after i (Some q) (device.Queue stop.OutOfMemory) calls t = (t.0, record { same = t.1.same; no_call = refl })
-refused_of may s after i (Some q) (device.Queue stop.Stopped) calls t = (t.0, refl, t.2)
-refused_of may s after i (Some q) (device.Queue stop.AvailIndexUnreachable) calls t = (t.0, refl, t.2)
-refused_of may s after i (Some q) (device.Queue stop.AvailTooFar) calls t = (t.0, refl, t.2)
-refused_of may s after i (Some q) (device.Queue stop.RingEntryUnreachable) calls t = (t.0, refl, t.2)
-refused_of may s after i (Some q) (device.Queue stop.HeadOutOfTable) calls t = (t.0, refl, t.2)
-refused_of may s after i (Some q) (device.Queue stop.UsedUnreachable) calls t = (t.0, refl, t.2)
-refused_of may s after i (Some q) (device.Queue stop.AvailFlagsUnreachable) calls t = (t.0, refl, t.2)
-refused_of may s after i (Some q) (device.Queue stop.DescriptorUnreachable) calls t = (t.0, refl, t.2)
+refused_of may s after i (Some q) (device.Queue _) calls t = (t.0, refl, t.2)
 
 -- what a kick comes to, given that it goes on so
 abbrev Proceeds : {F : Type 0} → May F → State F → ℕ → ℕ → List (Exchange × Bool) → State F → ℕ → Type 0

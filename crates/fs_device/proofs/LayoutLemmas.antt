@@ -101,9 +101,8 @@ found_some p (y ∷ l) e =
 pub lacks_room : (base size : ℕ) (l : List Region) (e : GuestRegionCollectionError) → (e ≡ fault.NoMemoryRegion → ⊥) →
     Removes base size l (Err e) → IsTrue (list_any (is_region base size) l)
 lacks_room base size l fault.NoMemoryRegion other is = absurd (other refl)
-lacks_room base size l fault.MemoryRegionOverlap other is = absurd is
-lacks_room base size l fault.UnsortedMemoryRegions other is = absurd is
 lacks_room base size l fault.OutOfMemory other is = found_some (is_region base size) l is.0
+lacks_room base size l _ other is = absurd is
 
 pub has_none : (base size : ℕ) (l : List Region) (e : GuestRegionCollectionError) → e ≡ fault.NoMemoryRegion → Removes base size l (Err e) →
     list_any (is_region base size) l ≡ false

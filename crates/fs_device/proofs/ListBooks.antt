@@ -49,9 +49,8 @@ no_step [] e = refl
 no_step (step ∷ steps) e = absurd (cc)
 
 pub one_step : (c : FileCall) (steps : Calls) → (c ∷ []) ≡ calls_alone steps → (a : FileAnswer) × (steps ≡ (c, a) ∷ [])
-one_step c [] e = absurd (cc)
 one_step c (step ∷ []) e = let same : step.0 ≡ c = cc in (step.1, ap (λ (x : FileCall). (x, step.1) ∷ []) same)
-one_step c (step ∷ other ∷ steps) e = absurd (cc)
+one_step c _ e = absurd (cc)
 
 nothing_listed : (most : ℕ) → nodes_listed most [] ≡ []
 unfolding nodes_listed
@@ -102,8 +101,7 @@ placed_balances : (n : ℕ) (who : Context) (e : Entry ℕ) (d : Listed) (fit : 
     Balanced n (is_node n e.inode) steps (placed fit (entry_bytes true e d) (forget_lookup who e.inode ∷ []) next)
 placed_balances n who e d FitsIn next steps node name suit rest asks most fits =
     put_in n e d next steps node (name refl) (rest asks) most fits
-placed_balances n who e d IsFull next steps node name suit rest asks most fits = taken_back n who e.inode steps suit asks most
-placed_balances n who e d (IsWrong errno) next steps node name suit rest asks most fits = taken_back n who e.inode steps suit asks most
+placed_balances n who e d _ next steps node name suit rest asks most fits = taken_back n who e.inode steps suit asks most
 
 entry_balances :
     (n : ℕ) (who : Context) (e : Entry ℕ) (d : Listed) (next : Next) (left room : ℕ) (steps : Calls) → e.inode < 2 ^ 64 → EachSuits steps →
@@ -133,10 +131,6 @@ looked_up_balances : (n : ℕ) (l : ListRequest) (d : Listed) (next : Next) (lef
     Balanced n 0 steps (next left room (answers_alone steps))) →
     (looked_up l d next left room (a ∷ answers_alone steps)).calls ≡ calls_alone steps →
     Balanced n 0 ((c, a) ∷ steps) (looked_up l d next left room (a ∷ answers_alone steps))
-looked_up_balances n l d next left room c (call.Failed errno) steps is fits suit rest asks most low =
-    stopped n c (call.Failed errno) steps (ap (forget_count n) (sym is)) refl asks most
-looked_up_balances n l d next left room c call.Done steps is fits suit rest asks most low =
-    stopped n c call.Done steps (ap (forget_count n) (sym is)) refl asks most
 looked_up_balances n l d next left room c (call.HasEntry e) steps is fits suit rest asks most low =
     let small : e.inode < 2 ^ 64 = ltb-true e.inode (2 ^ 64) (rw (← is) at fits) in
     let behind = entry_balances n l.context e d next left room steps small suit rest asks most low in
@@ -144,28 +138,10 @@ looked_up_balances n l d next left room c (call.HasEntry e) steps is fits suit r
     let x = entries_more n (c, call.HasEntry e) steps in
     let y = counts_more n (c, call.HasEntry e) steps in
     omega (arith, behind, keeps, x, y)
-looked_up_balances n l d next left room c (call.HasAttr attr timeout) steps is fits suit rest asks most low =
-    stopped n c (call.HasAttr attr timeout) steps
-    (ap (forget_count n) (sym is)) refl asks most
-looked_up_balances n l d next left room c (call.Opened handle options) steps is fits suit rest asks most low =
-    stopped n c (call.Opened handle options) steps
-    (ap (forget_count n) (sym is)) refl asks most
 looked_up_balances n l d next left room c (call.Created e handle options) steps is fits suit rest asks most low =
     not_true (rw (← is) at fits)
-looked_up_balances n l d next left room c (call.Bytes bytes) steps is fits suit rest asks most low =
-    stopped n c (call.Bytes bytes) steps (ap (forget_count n) (sym is)) refl asks most
-looked_up_balances n l d next left room c (call.Count k) steps is fits suit rest asks most low =
-    stopped n c (call.Count k) steps (ap (forget_count n) (sym is)) refl asks most
-looked_up_balances n l d next left room c (call.Stats st) steps is fits suit rest asks most low =
-    stopped n c (call.Stats st) steps (ap (forget_count n) (sym is)) refl asks most
-looked_up_balances n l d next left room c (call.Wrote k) steps is fits suit rest asks most low =
-    stopped n c (call.Wrote k) steps (ap (forget_count n) (sym is)) refl asks most
-looked_up_balances n l d next left room c (call.Offset k) steps is fits suit rest asks most low =
-    stopped n c (call.Offset k) steps (ap (forget_count n) (sym is)) refl asks most
-looked_up_balances n l d next left room c (call.Entries ds) steps is fits suit rest asks most low =
-    stopped n c (call.Entries ds) steps (ap (forget_count n) (sym is)) refl asks most
-looked_up_balances n l d next left room c (call.Wants options) steps is fits suit rest asks most low =
-    stopped n c (call.Wants options) steps (ap (forget_count n) (sym is)) refl asks most
+looked_up_balances n l d next left room c a steps is fits suit rest asks most low =
+    stopped n c a steps (ap (forget_count n) (sym is)) refl asks most
 
 -- ---- the whole list
 
@@ -231,8 +207,7 @@ placed_fits e d FitsIn undo next room fits low =
     let b = length_entry e d in
     let c = fits refl in
     omega (arith, a, b, c, low)
-placed_fits e d IsFull undo next room fits low = omega arith
-placed_fits e d (IsWrong errno) undo next room fits low = omega arith
+placed_fits e d _ undo next room fits low = omega arith
 
 entry_fits : (e : Entry ℕ) (d : Listed) (undo : List FileCall) (next : Next) (left room : ℕ) (answers : List FileAnswer) →
     ((left room : ℕ) (answers : List FileAnswer) → length (next left room answers).bytes ≤ room) →
@@ -245,21 +220,9 @@ entry_fits e d undo next left room answers low =
 looked_up_fits : (l : ListRequest) (d : Listed) (next : Next) (left room : ℕ) (answers : List FileAnswer) →
     ((left room : ℕ) (answers : List FileAnswer) → length (next left room answers).bytes ≤ room) →
     length (looked_up l d next left room answers).bytes ≤ room
-looked_up_fits l d next left room [] low = omega arith
-looked_up_fits l d next left room ((call.Failed errno) ∷ answers) low = omega arith
-looked_up_fits l d next left room (call.Done ∷ answers) low = omega arith
 looked_up_fits l d next left room ((call.HasEntry e) ∷ answers) low =
     entry_fits e d (forget_lookup l.context e.inode ∷ []) next left room answers low
-looked_up_fits l d next left room ((call.HasAttr attr timeout) ∷ answers) low = omega arith
-looked_up_fits l d next left room ((call.Opened handle options) ∷ answers) low = omega arith
-looked_up_fits l d next left room ((call.Created e handle options) ∷ answers) low = omega arith
-looked_up_fits l d next left room ((call.Bytes bytes) ∷ answers) low = omega arith
-looked_up_fits l d next left room ((call.Count k) ∷ answers) low = omega arith
-looked_up_fits l d next left room ((call.Stats st) ∷ answers) low = omega arith
-looked_up_fits l d next left room ((call.Wrote k) ∷ answers) low = omega arith
-looked_up_fits l d next left room ((call.Offset k) ∷ answers) low = omega arith
-looked_up_fits l d next left room ((call.Entries ds) ∷ answers) low = omega arith
-looked_up_fits l d next left room ((call.Wants options) ∷ answers) low = omega arith
+looked_up_fits l d next left room _ low = omega arith
 
 by_dot_fits : (l : ListRequest) (d : Listed) (next : Next) (left room : ℕ) (answers : List FileAnswer) (dot : Bool) → l.with_nodes ≡ true →
     is_dot d.name ≡ dot →
@@ -283,8 +246,7 @@ list_fits l nodes (d ∷ ds) left room answers =
 
 placed_asks_nothing : (bytes : List ℕ) (fit : Fit) (next : ListingResult) → next.calls ≡ [] → (placed fit bytes [] next).calls ≡ []
 placed_asks_nothing bytes FitsIn next none = none
-placed_asks_nothing bytes IsFull next none = refl
-placed_asks_nothing bytes (IsWrong errno) next none = refl
+placed_asks_nothing bytes _ next none = refl
 
 plain_is : (l : ListRequest) (d : Listed) (next : Next) (left room : ℕ) (answers : List FileAnswer) → l.with_nodes ≡ false →
     list_entry l d next left room answers

@@ -38,9 +38,8 @@ refused s true table after fit is = absurd (cc)
 refused {F} s false table after fit is = ap (λ (x : State F). (IsRefused why.BadMapping, x)) is
 
 set-same : (l : List (List IotlbRange)) (i : ℕ) → slice_set l i (unwrap_or (slice_get l i) []) ≡ l
-set-same [] i = refl
-set-same (x ∷ l) zero = refl
 set-same (x ∷ l) (suc i) = ap (λ (r : List (List IotlbRange)). x ∷ r) (set-same l i)
+set-same _ _ = refl
 
 -- a table that is left as it was
 pub left_same : (old new : Host) (number : ℕ) (ranges : List IotlbRange) → ranges ≡ ranges_in old number →

@@ -161,8 +161,7 @@ asked_preserved m limit ds = ap (asked_with m limit ds) (bytes_preserved m)
 
 found_offered : (m : Memory) (limit head : ℕ) (o : Found) → offer_of (unmarked_memory m) limit head o ≡ offer_of m limit head o
 found_offered m limit head (IsChain ds) = ap (Offers head) (asked_preserved m limit ds)
-found_offered m limit head (HasFault fault) = refl
-found_offered m limit head StopsQueue = refl
+found_offered m limit head _ = refl
 
 abbrev after_return_places : Memory → Queue → Offer → Offer
 after_return_places m q o =
@@ -176,9 +175,8 @@ head_preserved m limit q head = ap (after_return_places m q) (ap (offer_of (unma
 
 on_next_avail_preserved :
     (m : Memory) (limit : ℕ) (q : Queue) (l : NextAvail) → on_next_avail (unmarked_memory m) limit q l ≡ on_next_avail m limit q l
-on_next_avail_preserved m limit q avail.Idle = refl
-on_next_avail_preserved m limit q (avail.Refused e) = refl
 on_next_avail_preserved m limit q (avail.Head head) = head_preserved m limit q head
+on_next_avail_preserved m limit q _ = refl
 
 abbrev waiting_by : (ℕ → ℕ) → Queue → ℕ
 waiting_by f q = (number_by f w16 (avail_index_at q) + (2 ^ 16 - q.position)) % 2 ^ 16

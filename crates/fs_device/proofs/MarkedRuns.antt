@@ -171,9 +171,8 @@ record EffectAlike {F : Type 0} (x y : Effect F) : Type 0 where
 -- so are what is decided of a command and what is decided of it over the other host; one isn't decided where the other isn't
 abbrev DecidedAlike : {F : Type 0} → Option (Effect F) → Option (Effect F) → Type 0
 DecidedAlike None None = Unit {0}
-DecidedAlike None (Some y) = ⊥
-DecidedAlike (Some x) None = ⊥
 DecidedAlike (Some x) (Some y) = EffectAlike x y
+DecidedAlike _ _ = ⊥
 
 either_alike :
     {F : Type 0} (b : Bool) (x y z w : Effect F) → EffectAlike x z → EffectAlike y w → EffectAlike (if b then x else y) (if b then z else w)
@@ -243,13 +242,12 @@ module _ {F : Type 0} (s : State F) (h : Host) (same : without_marks s.memory.ho
   region_alike : (base block : ℕ) (o p : Option Block) → option_map unmarked o ≡ option_map unmarked p →
       EffectAlike (insert_block s base block o) (insert_block (with_host s h) base block p)
   region_alike base block None None is = refused_alike why.UnknownBlock
-  region_alike base block None (Some c) is = absurd (cc)
-  region_alike base block (Some b) None is = absurd (cc)
   region_alike base block (Some b) (Some c) is =
       let long : length b.bytes ≡ length c.bytes = ap (λ (o : Option Block). unwrap_or (option_map (λ b. length b.bytes) o) 0) is in
       subst (λ (n : ℕ). EffectAlike (insert_block s base block (Some b))
       (insert (with_host s h) (record { start = base; size = n; block = block }))) long
       (insert_alike (record { start = base; size = length b.bytes; block = block }))
+  region_alike base block _ _ is = absurd (cc)
 
   there_alike : (block : ℕ) → option_map unmarked (slice_get s.memory.host.blocks block) ≡ option_map unmarked (slice_get h.blocks block)
   there_alike block = sym (slice_get-map unmarked s.memory.host.blocks block) ∙ ap (λ (k : Host). slice_get k.blocks block) same
@@ -289,10 +287,7 @@ module _ {F : Type 0} (s : State F) (h : Host) (same : without_marks s.memory.ho
   effect_alike (run.ResetQueue queue size desc avail used) = reset_alike queue (fresh size desc avail used) _
   effect_alike run.Image = record { answer = cleared_alike; state = ap (with_host s) cleared_alike }
   effect_alike run.Harvest = record { answer = tt; state = ap (with_host s) cleared_alike }
-  effect_alike (run.Map iova target n perm) = tt
-  effect_alike (run.Unmap iova n) = tt
-  effect_alike run.UnmapAll = tt
-  effect_alike (run.Kick queue most) = tt
+  effect_alike _ = tt
 
 -- ---- commands
 
@@ -302,7 +297,6 @@ AnsweredAlike {F} Can answer after = (other : Answer) × (end : State F) × Same
 
 same_answer : (answer : Answer) → SameAnswer answer answer
 same_answer (run.Pages pages) = tt
-same_answer (run.Copied host) = refl
 same_answer _ = refl
 
 answered_so : {F : Type 0} (Can : Answer → State F → Type 0) (answer : Answer) (after : State F) → Matched (Can answer) after →
@@ -312,11 +306,10 @@ answered_so Can answer after m = (answer, m.0, same_answer answer, m.1, m.2)
 proceeds_alike : (layout : List Region) (base block : ℕ) (o p : Option Block) → option_map unmarked o ≡ option_map unmarked p →
     block_fits_in layout base block o ≡ block_fits_in layout base block p
 proceeds_alike layout base block None None is = refl
-proceeds_alike layout base block None (Some c) is = absurd (cc)
-proceeds_alike layout base block (Some b) None is = absurd (cc)
 proceeds_alike layout base block (Some b) (Some c) is =
     ap (λ (n : ℕ). fits_in layout (record { start = base; size = n; block = block }))
     (ap (λ (o : Option Block). unwrap_or (option_map (λ b. length b.bytes) o) 0) is)
+proceeds_alike layout base block _ _ is = absurd (cc)
 
 module _ {F : Type 0} (s : State F) (h : Host) (same : without_marks s.memory.host ≡ without_marks h) where
   table_alike : table_of s.memory ≡ table_of (with_host s h).memory
@@ -442,9 +435,8 @@ module _ {F : Type 0} (may : May F) where
       × SameButMarks after end
   unfolding RunReported
   run_alike s t after [] [] same ran = ([], t, tt, refl, ap without_its_marks ran ∙ same)
-  run_alike s t after [] (reported ∷ all_reported) same ran = absurd ran
-  run_alike s t after (e ∷ es) [] same ran = absurd ran
   run_alike s t after (e ∷ es) (reported ∷ all_reported) same (mid, performs, rest) =
       let first = performs_alike s t same e.0 reported e.1 mid performs in
       let others = run_alike mid first.1 after es all_reported first.4 rest in
       ((e.0, first.0) ∷ others.0, others.1, (refl, first.2, others.2), (first.1, first.3, others.3), others.4)
+  run_alike s t after _ _ same ran = absurd ran

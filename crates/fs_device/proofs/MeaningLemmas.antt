@@ -49,33 +49,9 @@ of_other_kind : (n : ℕ) (kind : AnswerForm) (a : FileAnswer) → has_entry kin
 of_other_kind n kind (call.Failed errno) without h = refl
 of_other_kind n kind call.Done without h = refl
 of_other_kind n call.IsDone (call.HasEntry e) without h = absurd (cc)
-of_other_kind n call.IsNeverGood (call.HasEntry e) without h = absurd (cc)
-of_other_kind n call.IsEntry (call.HasEntry e) without h = absurd (cc)
-of_other_kind n call.IsAttr (call.HasEntry e) without h = absurd (cc)
-of_other_kind n call.IsOpen (call.HasEntry e) without h = absurd (cc)
-of_other_kind n call.IsCreate (call.HasEntry e) without h = absurd (cc)
-of_other_kind n call.IsBytes (call.HasEntry e) without h = absurd (cc)
-of_other_kind n call.IsBytesOrCount (call.HasEntry e) without h = absurd (cc)
-of_other_kind n call.IsStats (call.HasEntry e) without h = absurd (cc)
-of_other_kind n call.IsWritten (call.HasEntry e) without h = absurd (cc)
-of_other_kind n call.IsOffset (call.HasEntry e) without h = absurd (cc)
-of_other_kind n call.IsEntries (call.HasEntry e) without h = absurd (cc)
-of_other_kind n call.IsInitOptions (call.HasEntry e) without h = absurd (cc)
 of_other_kind n kind (call.HasAttr attr timeout) without h = refl
 of_other_kind n kind (call.Opened handle options) without h = refl
 of_other_kind n call.IsDone (call.Created e handle options) without h = absurd (cc)
-of_other_kind n call.IsNeverGood (call.Created e handle options) without h = absurd (cc)
-of_other_kind n call.IsEntry (call.Created e handle options) without h = absurd (cc)
-of_other_kind n call.IsAttr (call.Created e handle options) without h = absurd (cc)
-of_other_kind n call.IsOpen (call.Created e handle options) without h = absurd (cc)
-of_other_kind n call.IsCreate (call.Created e handle options) without h = absurd (cc)
-of_other_kind n call.IsBytes (call.Created e handle options) without h = absurd (cc)
-of_other_kind n call.IsBytesOrCount (call.Created e handle options) without h = absurd (cc)
-of_other_kind n call.IsStats (call.Created e handle options) without h = absurd (cc)
-of_other_kind n call.IsWritten (call.Created e handle options) without h = absurd (cc)
-of_other_kind n call.IsOffset (call.Created e handle options) without h = absurd (cc)
-of_other_kind n call.IsEntries (call.Created e handle options) without h = absurd (cc)
-of_other_kind n call.IsInitOptions (call.Created e handle options) without h = absurd (cc)
 of_other_kind n kind (call.Bytes bytes) without h = refl
 of_other_kind n kind (call.Count k) without h = refl
 of_other_kind n kind (call.Stats st) without h = refl
@@ -83,22 +59,13 @@ of_other_kind n kind (call.Wrote k) without h = refl
 of_other_kind n kind (call.Offset k) without h = refl
 of_other_kind n kind (call.Entries ds) without h = refl
 of_other_kind n kind (call.Wants options) without h = refl
+of_other_kind n _ _ without h = absurd (cc)
 
 -- an answer of another kind has no entry
 pub no_entry : (n : ℕ) (c : FileCall) (a : FileAnswer) → has_entry (kind_of c) ≡ false → IsTrue (suits c a) → entry_count n a ≡ 0
-no_entry n c (call.Failed errno) without h = refl
-no_entry n c call.Done without h = refl
 no_entry n c (call.HasEntry e) without h = of_other_kind n (kind_of c) (call.HasEntry e) without h
-no_entry n c (call.HasAttr attr timeout) without h = refl
-no_entry n c (call.Opened handle options) without h = refl
 no_entry n c (call.Created e handle options) without h = of_other_kind n (kind_of c) (call.Created e handle options) without h
-no_entry n c (call.Bytes bytes) without h = refl
-no_entry n c (call.Count k) without h = refl
-no_entry n c (call.Stats st) without h = refl
-no_entry n c (call.Wrote k) without h = refl
-no_entry n c (call.Offset k) without h = refl
-no_entry n c (call.Entries ds) without h = refl
-no_entry n c (call.Wants options) without h = refl
+no_entry n c _ without h = refl
 
 -- the nodes in the reply to each answer of a call are its entries
 abbrev pub CallFits : (node : ℕ) → Option Opcode → FileCall → Type 0
@@ -149,19 +116,10 @@ by_entry : (n : ℕ) (o : Opcode) (c : FileCall) (unique : ℕ) (a : FileAnswer)
     ((bytes : List ℕ) → suits c (call.Bytes bytes) ≡ false) → IsTrue (suits c a) →
     Counted n o unique c a
 by_entry n o c unique (call.Failed errno) begins reported kind no_bytes fits = failed_counts n o unique errno
-by_entry n o c unique call.Done begins reported kind no_bytes fits = not_true (rw kind at fits)
 by_entry n o c unique (call.HasEntry e) begins reported kind no_bytes fits =
     rw reported (entry_alone n o unique e begins (node_fits e.inode (rw kind at fits)))
-by_entry n o c unique (call.HasAttr attr timeout) begins reported kind no_bytes fits = not_true (rw kind at fits)
-by_entry n o c unique (call.Opened handle options) begins reported kind no_bytes fits = not_true (rw kind at fits)
-by_entry n o c unique (call.Created e handle options) begins reported kind no_bytes fits = not_true (rw kind at fits)
 by_entry n o c unique (call.Bytes bytes) begins reported kind no_bytes fits = not_true (sym (no_bytes bytes) ∙ fits)
-by_entry n o c unique (call.Count k) begins reported kind no_bytes fits = not_true (rw kind at fits)
-by_entry n o c unique (call.Stats st) begins reported kind no_bytes fits = not_true (rw kind at fits)
-by_entry n o c unique (call.Wrote k) begins reported kind no_bytes fits = not_true (rw kind at fits)
-by_entry n o c unique (call.Offset k) begins reported kind no_bytes fits = not_true (rw kind at fits)
-by_entry n o c unique (call.Entries ds) begins reported kind no_bytes fits = not_true (rw kind at fits)
-by_entry n o c unique (call.Wants options) begins reported kind no_bytes fits = not_true (rw kind at fits)
+by_entry n o c unique _ begins reported kind no_bytes fits = not_true (rw kind at fits)
 
 -- if both hold, the first does
 first_holds : (a b : Bool) → (a && b) ≡ true → a ≡ true
@@ -173,20 +131,11 @@ by_creation : (n : ℕ) (o : Opcode) (c : FileCall) (unique : ℕ) (a : FileAnsw
     ((bytes : List ℕ) → suits c (call.Bytes bytes) ≡ false) → IsTrue (suits c a) →
     Counted n o unique c a
 by_creation n o c unique (call.Failed errno) begins reported kind no_bytes fits = failed_counts n o unique errno
-by_creation n o c unique call.Done begins reported kind no_bytes fits = not_true (rw kind at fits)
-by_creation n o c unique (call.HasEntry e) begins reported kind no_bytes fits = not_true (rw kind at fits)
-by_creation n o c unique (call.HasAttr attr timeout) begins reported kind no_bytes fits = not_true (rw kind at fits)
-by_creation n o c unique (call.Opened handle options) begins reported kind no_bytes fits = not_true (rw kind at fits)
 by_creation n o c unique (call.Created e handle options) begins reported kind no_bytes fits =
     rw reported (entry_counts n o unique e (spelled (open_out (open_out_of handle options))) begins
     (node_fits e.inode (first_holds (nat_lt e.inode (2 ^ 64)) (call.is_handle handle) (rw kind at fits))))
 by_creation n o c unique (call.Bytes bytes) begins reported kind no_bytes fits = not_true (sym (no_bytes bytes) ∙ fits)
-by_creation n o c unique (call.Count k) begins reported kind no_bytes fits = not_true (rw kind at fits)
-by_creation n o c unique (call.Stats st) begins reported kind no_bytes fits = not_true (rw kind at fits)
-by_creation n o c unique (call.Wrote k) begins reported kind no_bytes fits = not_true (rw kind at fits)
-by_creation n o c unique (call.Offset k) begins reported kind no_bytes fits = not_true (rw kind at fits)
-by_creation n o c unique (call.Entries ds) begins reported kind no_bytes fits = not_true (rw kind at fits)
-by_creation n o c unique (call.Wants options) begins reported kind no_bytes fits = not_true (rw kind at fits)
+by_creation n o c unique _ begins reported kind no_bytes fits = not_true (rw kind at fits)
 
 -- calls that have an entry, or none, and take no count back
 quiet_call : (n : ℕ) (o : Opcode) (c : FileCall) → replies_entry o ≡ false → lists_nodes o ≡ false → has_entry (kind_of c) ≡ false →
@@ -214,12 +163,11 @@ ListFits room o false = (bytes : List ℕ) → nodes_in o bytes ≡ []
 
 -- the nodes in the reply are the entries of the answers
 abbrev pub MeaningFits : (node room : ℕ) → Option Opcode → Meaning → Type 0
-MeaningFits n room o (IsFault e) = Unit {0}
 MeaningFits n room o (Replies bytes) = nodes_in o (drop 16 bytes) ≡ []
-MeaningFits n room o IsSilent = Unit {0}
 MeaningFits n room o (Asks (One unique c)) = CallFits n o c
 MeaningFits n room o (Asks (Starts unique capable readahead)) = (bytes : List ℕ) → nodes_in o bytes ≡ []
 MeaningFits n room o (Asks (Lists unique l)) = ListFits room o l.with_nodes
+MeaningFits n room o _ = Unit {0}
 
 -- and the request takes no count back
 abbrev Quiet : (node room : ℕ) → Opcode → Meaning → Type 0
@@ -485,15 +433,8 @@ header_fits n g bytes = by_opcode n g (nat_le g.header.len 0x101000) (opcode_of 
 
 -- the opcode stands in the front of the request as in the front of its header
 pub opcode_there : (bs : List ℕ) → 40 ≤ length bs → take 4 (drop 4 (take 40 bs)) ≡ take 4 (drop 4 bs)
-opcode_there [] l = absurd (omega arith)
-opcode_there (a ∷ []) l = absurd (omega arith)
-opcode_there (a ∷ b ∷ []) l = absurd (omega arith)
-opcode_there (a ∷ b ∷ c ∷ []) l = absurd (omega arith)
-opcode_there (a ∷ b ∷ c ∷ d ∷ []) l = absurd (omega arith)
-opcode_there (a ∷ b ∷ c ∷ d ∷ e ∷ []) l = absurd (omega arith)
-opcode_there (a ∷ b ∷ c ∷ d ∷ e ∷ f ∷ []) l = absurd (omega arith)
-opcode_there (a ∷ b ∷ c ∷ d ∷ e ∷ f ∷ g ∷ []) l = absurd (omega arith)
 opcode_there (a ∷ b ∷ c ∷ d ∷ e ∷ f ∷ g ∷ h ∷ bs) l = refl
+opcode_there _ l = absurd (omega arith)
 
 -- the parser of a header, by whether the request is too short
 abbrev front_read : Bool → List ℕ → Result (List ℕ × List ℕ) ReadFailure

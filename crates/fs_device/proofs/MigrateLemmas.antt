@@ -167,10 +167,9 @@ runs_joined :
     → RunReported may mid fs us after → RunReported may s (es ++ fs) (ts ++ us) after
 unfolding RunReported
 runs_joined may s mid after [] fs [] us one other = subst (λ k. RunReported may k fs us after) one other
-runs_joined may s mid after [] fs (t ∷ ts) us one other = absurd one
-runs_joined may s mid after (e ∷ es) fs [] us one other = absurd one
 runs_joined may s mid after (e ∷ es) fs (t ∷ ts) us (k, performs, rest) other =
     (k, performs, runs_joined may k mid after es fs ts us rest other)
+runs_joined may s mid after _ fs _ us one other = absurd one
 
 one_command : {F : Type 0} (may : May F) (s after : State F) (e : Command × Answer) → Performs may s e.0 [] e.1 after →
     RunReported may s (e ∷ []) ([] ∷ []) after
@@ -201,9 +200,8 @@ with_answers cs answers = zip (map command_of cs) (map answer_of answers)
 
 all_follow : (cs : List fetched.Command) (answers : List said.Answer) → CanFollow cs →
     AllByRecursion (λ (e : Command × Answer). IsTrue (follows_image e.0)) (with_answers cs answers)
-all_follow [] answers f = tt
-all_follow (c ∷ cs) [] f = tt
 all_follow (c ∷ cs) (a ∷ answers) f = (f.0, all_follow cs answers f.1)
+all_follow _ _ f = tt
 
 harvest_follows :
     (events : List (Command × Answer)) (last : List Page) → AllByRecursion (λ (e : Command × Answer). IsTrue (follows_image e.0)) events →
@@ -309,11 +307,10 @@ put_whole copy one two xs ys r put same places outcome ok =
 pub all_pages : (cs : List fetched.Command) (answers : List said.Answer) (last : List Page) → length answers ≡ length cs →
     pages_answered (until_harvest (with_answers cs answers) last) ≡ pages_of_answers answers ++ last
 all_pages [] [] last e = append-nil last
-all_pages [] (a ∷ answers) last e = absurd (omega arith)
-all_pages (c ∷ cs) [] last e = absurd (omega arith)
 all_pages (c ∷ cs) (a ∷ answers) last e =
     ap (λ (l : List Page). pages_of_answer (answer_of a) ++ l) (all_pages cs answers last (omega arith))
     ∙ sym (append_assoc (pages_of_answer (answer_of a)) (pages_of_answers answers) last)
+all_pages _ _ last e = absurd (omega arith)
 
 -- the machine over the copy with these pages put in is the one here, so whatever runs there could have run here
 pub is_moved : {F : Type 0} (may : May F) (s here there : State F) (copy : Host) (events : List (Command × Answer)) (last ps : List Page) →

@@ -89,14 +89,7 @@ refused_held :
 refused_held may image s i None calls e after t h = subst (HeldIn image) (sym t.1.same) h
 refused_held may image s i (Some q) calls device.NoSuchQueue after t h = absurd t
 refused_held may image s i (Some q) calls (device.Queue stop.OutOfMemory) after t h = subst (HeldIn image) (sym t.1.same) h
-refused_held may image s i (Some q) calls (device.Queue stop.Stopped) after t h = subst (HeldIn image) (sym t.2) h
-refused_held may image s i (Some q) calls (device.Queue stop.AvailIndexUnreachable) after t h = subst (HeldIn image) (sym t.2) h
-refused_held may image s i (Some q) calls (device.Queue stop.AvailTooFar) after t h = subst (HeldIn image) (sym t.2) h
-refused_held may image s i (Some q) calls (device.Queue stop.RingEntryUnreachable) after t h = subst (HeldIn image) (sym t.2) h
-refused_held may image s i (Some q) calls (device.Queue stop.HeadOutOfTable) after t h = subst (HeldIn image) (sym t.2) h
-refused_held may image s i (Some q) calls (device.Queue stop.UsedUnreachable) after t h = subst (HeldIn image) (sym t.2) h
-refused_held may image s i (Some q) calls (device.Queue stop.AvailFlagsUnreachable) after t h = subst (HeldIn image) (sym t.2) h
-refused_held may image s i (Some q) calls (device.Queue stop.DescriptorUnreachable) after t h = subst (HeldIn image) (sym t.2) h
+refused_held may image s i (Some q) calls (device.Queue _) after t h = subst (HeldIn image) (sym t.2) h
 
 -- ---- kicks
 
@@ -181,7 +174,6 @@ affect_proceeds image s (run.GuestWrite a bs) answer after follows h t =
     let written = stores_held image (physical s.memory) (zip (addresses a (length bs)) bs) (refl, h.1) in
     by_effect image (run.guest_write s a bs) answer after t
     (whichever image (reach (physical s.memory) Write a (length bs)) _ _ (proceeds image (h.0, written.1)) (proceeds image h))
-affect_proceeds image s (run.NewBlock n) answer after follows h t = absurd (cc)
 affect_proceeds image s (run.InsertRegion base block) answer after follows h t =
     by_effect image (insert_block s base block (slice_get s.memory.host.blocks block)) answer after t
     (block_proceeds image s base block (slice_get s.memory.host.blocks block) h)
@@ -193,17 +185,14 @@ affect_proceeds image s (run.SetLayout layout) answer after follows h t =
     (whichever image (not (list_all (is_known s.memory.host) layout)) _ _ (proceeds image h)
     (whichever image (not (list_all fits layout)) _ _ (proceeds image h)
     (whichever image (some_overlap layout) _ _ (proceeds image h) (proceeds image h))))
-affect_proceeds image s (run.Map iova target n perm) answer after follows h t = absurd (cc)
-affect_proceeds image s (run.Unmap iova n) answer after follows h t = absurd (cc)
-affect_proceeds image s run.UnmapAll answer after follows h t = absurd (cc)
 affect_proceeds image s (run.SetIommu on) answer after follows h t =
     by_effect image (run.set_iommu s on) answer after t (switch_proceeds image s on follows h)
 affect_proceeds image s (run.Kick queue most) answer after follows h t = absurd t
 affect_proceeds image s (run.ResetQueue queue size desc avail used) answer after follows h t =
     by_effect image (reset s queue (fresh size desc avail used) (slice_get s.queues queue)) answer after t
     (reset_proceeds image s queue (fresh size desc avail used) (slice_get s.queues queue) h)
-affect_proceeds image s run.Image answer after follows h t = absurd (cc)
 affect_proceeds image s run.Harvest answer after follows h t = by_effect image (run.harvest s) answer after t (harvest_proceeds image s h)
+affect_proceeds image s _ answer after follows h t = absurd (cc)
 
 effect_proceeds : {F : Type 0} (image : Host) (s : State F) (command : Command) (reported : Turns) (answer : Answer) (after : State F) →
     IsTrue (follows_image command) → HeldIn image s →
@@ -217,37 +206,8 @@ does_proceeds : {F : Type 0} (may : May F) (image : Host) (s : State F) (command
     Does may s command reported answer after → Continues image (answer, after)
 does_proceeds may image s (run.Kick i most) reported (run.Served k) after follows h t =
     proceeds image (kicks_held may image s i most (slice_get s.queues i) reported k after t h)
-does_proceeds may image s (run.Kick i most) reported run.Done after follows h t = absurd t
-does_proceeds may image s (run.Kick i most) reported (run.Bytes bytes) after follows h t = absurd t
-does_proceeds may image s (run.Kick i most) reported (run.NewBlockIs number) after follows h t = absurd t
-does_proceeds may image s (run.Kick i most) reported (run.Copied host) after follows h t = absurd t
-does_proceeds may image s (run.Kick i most) reported (run.Pages pages) after follows h t = absurd t
-does_proceeds may image s (run.Kick i most) reported (run.IsRefused refusal) after follows h t = absurd t
-does_proceeds may image s (run.GuestRead a n) reported answer after follows h t =
-    effect_proceeds image s (run.GuestRead a n) reported answer after follows h t
-does_proceeds may image s (run.GuestWrite a bs) reported answer after follows h t =
-    effect_proceeds image s (run.GuestWrite a bs) reported answer after follows h t
-does_proceeds may image s (run.NewBlock n) reported answer after follows h t =
-    effect_proceeds image s (run.NewBlock n) reported answer after follows h t
-does_proceeds may image s (run.InsertRegion base block) reported answer after follows h t =
-    effect_proceeds image s (run.InsertRegion base block) reported answer after follows h t
-does_proceeds may image s (run.RemoveRegion base size) reported answer after follows h t =
-    effect_proceeds image s (run.RemoveRegion base size) reported answer after follows h t
-does_proceeds may image s (run.SetLayout layout) reported answer after follows h t =
-    effect_proceeds image s (run.SetLayout layout) reported answer after follows h t
-does_proceeds may image s (run.Map iova target n perm) reported answer after follows h t =
-    effect_proceeds image s (run.Map iova target n perm) reported answer after follows h t
-does_proceeds may image s (run.Unmap iova n) reported answer after follows h t =
-    effect_proceeds image s (run.Unmap iova n) reported answer after follows h t
-does_proceeds may image s run.UnmapAll reported answer after follows h t =
-    effect_proceeds image s run.UnmapAll reported answer after follows h t
-does_proceeds may image s (run.SetIommu on) reported answer after follows h t =
-    effect_proceeds image s (run.SetIommu on) reported answer after follows h t
-does_proceeds may image s (run.ResetQueue queue size desc avail used) reported answer after follows h t =
-    effect_proceeds image s (run.ResetQueue queue size desc avail used) reported answer after follows h t
-does_proceeds may image s run.Image reported answer after follows h t = effect_proceeds image s run.Image reported answer after follows h t
-does_proceeds may image s run.Harvest reported answer after follows h t =
-    effect_proceeds image s run.Harvest reported answer after follows h t
+does_proceeds may image s (run.Kick i most) reported _ after follows h t = absurd t
+does_proceeds may image s command reported answer after follows h t = effect_proceeds image s command reported answer after follows h t
 
 performs_proceeds : {F : Type 0} (may : May F) (image : Host) (s : State F) (command : Command) (reported : Turns) (answer : Answer)
     (after : State F) → IsTrue (follows_image command) → HeldIn image s →
@@ -255,33 +215,7 @@ performs_proceeds : {F : Type 0} (may : May F) (image : Host) (s : State F) (com
 performs_proceeds may image s command [] (run.IsRefused why.OutOfMemory) after follows h t =
     proceeds image (subst (HeldIn image) (sym t.1) h)
 performs_proceeds may image s command (x ∷ reported) (run.IsRefused why.OutOfMemory) after follows h t = absurd t
-performs_proceeds may image s command reported (run.IsRefused why.NoPlace) after follows h t =
-    does_proceeds may image s command reported _ after follows h t
-performs_proceeds may image s command reported (run.IsRefused why.EmptyBlock) after follows h t =
-    does_proceeds may image s command reported _ after follows h t
-performs_proceeds may image s command reported (run.IsRefused why.UnknownBlock) after follows h t =
-    does_proceeds may image s command reported _ after follows h t
-performs_proceeds may image s command reported (run.IsRefused why.BadRegion) after follows h t =
-    does_proceeds may image s command reported _ after follows h t
-performs_proceeds may image s command reported (run.IsRefused why.Overlap) after follows h t =
-    does_proceeds may image s command reported _ after follows h t
-performs_proceeds may image s command reported (run.IsRefused why.NoRegion) after follows h t =
-    does_proceeds may image s command reported _ after follows h t
-performs_proceeds may image s command reported (run.IsRefused why.BadMapping) after follows h t =
-    does_proceeds may image s command reported _ after follows h t
-performs_proceeds may image s command reported (run.IsRefused why.NoSuchQueue) after follows h t =
-    does_proceeds may image s command reported _ after follows h t
-performs_proceeds may image s command reported run.Done after follows h t = does_proceeds may image s command reported _ after follows h t
-performs_proceeds may image s command reported (run.Bytes bytes) after follows h t =
-    does_proceeds may image s command reported _ after follows h t
-performs_proceeds may image s command reported (run.NewBlockIs number) after follows h t =
-    does_proceeds may image s command reported _ after follows h t
-performs_proceeds may image s command reported (run.Served k) after follows h t =
-    does_proceeds may image s command reported _ after follows h t
-performs_proceeds may image s command reported (run.Copied host) after follows h t =
-    does_proceeds may image s command reported _ after follows h t
-performs_proceeds may image s command reported (run.Pages pages) after follows h t =
-    does_proceeds may image s command reported _ after follows h t
+performs_proceeds may image s command reported _ after follows h t = does_proceeds may image s command reported _ after follows h t
 
 -- ---- runs
 
@@ -297,8 +231,6 @@ run_proceeds : {F : Type 0} (may : May F) (image : Host) (s : State F) (events :
     RunReported may s events all_reported after → Arrives image events after
 unfolding RunReported
 run_proceeds may image s [] [] after follows h t = subst (λ s. Arrives image [] s) (sym t) (let now = proceeds image h in (now.0, now.1))
-run_proceeds may image s [] (reported ∷ all_reported) after follows h t = absurd t
-run_proceeds may image s (e ∷ es) [] after follows h t = absurd t
 run_proceeds may image s (e ∷ es) (reported ∷ all_reported) after follows h (mid, performs, rest) =
     let now = performs_proceeds may image s e.0 reported e.1 mid follows.0 h performs in
     let later = run_proceeds may (pages_put image (pages_of_answer e.1)) mid es all_reported after follows.1 now.0 rest in (
@@ -306,6 +238,7 @@ run_proceeds may image s (e ∷ es) (reported ∷ all_reported) after follows h 
       places-append (lengths image) (pages_of_answer e.1) (pages_answered es) now.1
           (subst (λ (l : List ℕ). HavePlaces l (pages_answered es)) now.2 later.1),
     )
+run_proceeds may image s _ _ after follows h t = absurd t
 
 -- an image that answered its copy tracks the state after
 image_held : {F : Type 0} (may : May F) (s : State F) (copy : Host) (reported : Turns) (after : State F) → s.memory.translates ≡ false →

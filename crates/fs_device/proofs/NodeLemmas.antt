@@ -32,9 +32,8 @@ drop_reply unique body =
 
 nothing_past : (bytes : List ℕ) (n : ℕ) → length bytes ≡ n → drop n bytes ≡ []
 nothing_past [] zero e = refl
-nothing_past [] (suc n) e = absurd (omega arith)
-nothing_past (b ∷ bytes) zero e = absurd (omega arith)
 nothing_past (b ∷ bytes) (suc n) e = nothing_past bytes n (omega arith)
+nothing_past _ _ e = absurd (omega arith)
 
 pub drop_error : (unique errno : ℕ) → drop 16 (error_bytes unique errno) ≡ []
 drop_error unique errno = nothing_past (error_bytes unique errno) 16 (length_error unique errno)
@@ -87,10 +86,8 @@ one_node o all n fs more is begins small =
 -- an entry that goes in has a name whose length fits, and the room has place for it
 fits_by : (a b c : Bool) (x y : ℕ) → (if a then IsWrong x else if b then IsFull else if c then IsWrong y else FitsIn) ≡ FitsIn →
     (a ≡ false) × (c ≡ false)
-fits_by true b c x y e = absurd (cc)
-fits_by false true c x y e = absurd (cc)
-fits_by false false true x y e = absurd (cc)
 fits_by false false false x y e = (refl, refl)
+fits_by _ _ _ x y e = absurd (cc)
 
 pub fits_in_fits : (name_len len left room : ℕ) → fit_of name_len len left room ≡ FitsIn → (name_len < 2 ^ 32) × (len ≤ room)
 unfolding fit_of

@@ -48,9 +48,8 @@ clears h = record {
 }
 
 none_of_new : (n page : ℕ) → slice_get (replicate n false) page ≡ Some true → ⊥
-none_of_new zero page e = absurd (cc)
-none_of_new (suc n) zero e = absurd (cc)
 none_of_new (suc n) (suc page) e = none_of_new n page e
+none_of_new _ _ e = absurd (cc)
 
 -- the mark of a page of a block in a list
 abbrev listed_mark : List Block → ℕ → ℕ → Option Bool
@@ -103,9 +102,8 @@ module _ {F : Type 0} (may : May F) where
 
 firsts : (xs ys : List ℕ) → length xs ≡ length ys → map (λ (w : ℕ × ℕ). w.0) (zip xs ys) ≡ xs
 firsts [] [] e = refl
-firsts [] (y ∷ ys) e = absurd (omega (arith, e))
-firsts (x ∷ xs) [] e = absurd (omega (arith, e))
 firsts (x ∷ xs) (y ∷ ys) e = ap (λ (l : List ℕ). x ∷ l) (firsts xs ys (omega (arith, e)))
+firsts _ _ e = absurd (omega (arith, e))
 
 write_marks : (m : Memory) (a : ℕ) (bs : List ℕ) →
     Marks (physical m) (addresses a (length bs)) (stored_all (physical m) (zip (addresses a (length bs)) bs)).host
@@ -180,8 +178,6 @@ module _ {F : Type 0} (may : May F) (s : State F) where
       by_effect may s c (run.set_layout s layout) answer after t
       (whichever may s c (not (list_all (is_known s.memory.host) layout)) _ _ preserved
       (whichever may s c (not (list_all fits layout)) _ _ preserved (whichever may s c (some_overlap layout) _ _ preserved preserved)))
-  affect_marks (run.Map iova target n perm) answer after t = table_marks _ _ answer after (run.Map iova target n perm) (λ end h. h) t
-  affect_marks (run.Unmap iova n) answer after t = table_marks _ _ answer after (run.Unmap iova n) (λ end h. h) t
   affect_marks run.UnmapAll answer after t = table_marks true nothing_mapped answer after run.UnmapAll (λ end h. h) t
   affect_marks (run.SetIommu on) answer after t = by_effect may s (run.SetIommu on) (run.set_iommu s on) answer after t preserved
   affect_marks (run.Kick i most) answer after t = absurd t
@@ -190,6 +186,7 @@ module _ {F : Type 0} (may : May F) (s : State F) where
       (reset_marks i size desc avail used (slice_get s.queues i))
   affect_marks run.Image answer after t = by_effect may s run.Image (run.image s) answer after t (clears s.memory.host)
   affect_marks run.Harvest answer after t = by_effect may s run.Harvest (run.harvest s) answer after t (clears s.memory.host)
+  affect_marks command answer after t = table_marks _ _ answer after command (λ end h. h) t
 
   effect_marks : (command : Command) (reported : Turns) (answer : Answer) (after : State F) → HasEffect s command reported answer after →
       AnswerMarks may answer s command reported after
@@ -199,42 +196,11 @@ module _ {F : Type 0} (may : May F) (s : State F) where
   does_mark : (command : Command) (reported : Turns) (answer : Answer) (after : State F) → Does may s command reported answer after →
       AnswerMarks may answer s command reported after
   does_mark (run.Kick i most) reported (run.Served k) after t = kicks_mark may s i most (slice_get s.queues i) reported k after t
-  does_mark (run.Kick i most) reported run.Done after t = absurd t
-  does_mark (run.Kick i most) reported (run.Bytes bytes) after t = absurd t
-  does_mark (run.Kick i most) reported (run.NewBlockIs number) after t = absurd t
-  does_mark (run.Kick i most) reported (run.Copied host) after t = absurd t
-  does_mark (run.Kick i most) reported (run.Pages pages) after t = absurd t
-  does_mark (run.Kick i most) reported (run.IsRefused refusal) after t = absurd t
-  does_mark (run.GuestRead a n) reported answer after t = effect_marks (run.GuestRead a n) reported answer after t
-  does_mark (run.GuestWrite a bs) reported answer after t = effect_marks (run.GuestWrite a bs) reported answer after t
-  does_mark (run.NewBlock n) reported answer after t = effect_marks (run.NewBlock n) reported answer after t
-  does_mark (run.InsertRegion base block) reported answer after t = effect_marks (run.InsertRegion base block) reported answer after t
-  does_mark (run.RemoveRegion base size) reported answer after t = effect_marks (run.RemoveRegion base size) reported answer after t
-  does_mark (run.SetLayout layout) reported answer after t = effect_marks (run.SetLayout layout) reported answer after t
-  does_mark (run.Map iova target n perm) reported answer after t = effect_marks (run.Map iova target n perm) reported answer after t
-  does_mark (run.Unmap iova n) reported answer after t = effect_marks (run.Unmap iova n) reported answer after t
-  does_mark run.UnmapAll reported answer after t = effect_marks run.UnmapAll reported answer after t
-  does_mark (run.SetIommu on) reported answer after t = effect_marks (run.SetIommu on) reported answer after t
-  does_mark (run.ResetQueue i size desc avail used) reported answer after t =
-      effect_marks (run.ResetQueue i size desc avail used) reported answer after t
-  does_mark run.Image reported answer after t = effect_marks run.Image reported answer after t
-  does_mark run.Harvest reported answer after t = effect_marks run.Harvest reported answer after t
+  does_mark (run.Kick i most) reported _ after t = absurd t
+  does_mark command reported answer after t = effect_marks command reported answer after t
 
 pub commands_mark : {F : Type 0} (may : May F) → CommandsMark may
 commands_mark {F} may s after command [] (run.IsRefused why.OutOfMemory) t =
     subst (λ (k : State F). KeepsMarks s.memory.host k.memory.host) (sym t.1) (keeps s.memory.host)
 commands_mark may s after command (x ∷ reported) (run.IsRefused why.OutOfMemory) t = absurd t
-commands_mark may s after command reported (run.IsRefused why.NoPlace) t = does_mark may s command reported _ after t
-commands_mark may s after command reported (run.IsRefused why.EmptyBlock) t = does_mark may s command reported _ after t
-commands_mark may s after command reported (run.IsRefused why.UnknownBlock) t = does_mark may s command reported _ after t
-commands_mark may s after command reported (run.IsRefused why.BadRegion) t = does_mark may s command reported _ after t
-commands_mark may s after command reported (run.IsRefused why.Overlap) t = does_mark may s command reported _ after t
-commands_mark may s after command reported (run.IsRefused why.NoRegion) t = does_mark may s command reported _ after t
-commands_mark may s after command reported (run.IsRefused why.BadMapping) t = does_mark may s command reported _ after t
-commands_mark may s after command reported (run.IsRefused why.NoSuchQueue) t = does_mark may s command reported _ after t
-commands_mark may s after command reported run.Done t = does_mark may s command reported _ after t
-commands_mark may s after command reported (run.Bytes bytes) t = does_mark may s command reported _ after t
-commands_mark may s after command reported (run.NewBlockIs number) t = does_mark may s command reported _ after t
-commands_mark may s after command reported (run.Served k) t = does_mark may s command reported _ after t
-commands_mark may s after command reported (run.Copied host) t = does_mark may s command reported _ after t
-commands_mark may s after command reported (run.Pages pages) t = does_mark may s command reported _ after t
+commands_mark may s after command reported _ t = does_mark may s command reported _ after t

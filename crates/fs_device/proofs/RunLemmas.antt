@@ -8,9 +8,8 @@ use Rattle.plain_machine.specs.Run.{Command, Answer, Turns, Performs, RunReporte
 zip_more : {X Y A B : Type 0} (f : X → A) (g : Y → B) (xs : List X) (ys : List Y) (x : X) (y : Y) → length ys ≡ length xs →
     zip (map f (xs ++ x ∷ [])) (map g (ys ++ y ∷ [])) ≡ zip (map f xs) (map g ys) ++ (f x, g y) ∷ []
 zip_more f g [] [] x y same = refl
-zip_more f g [] (b ∷ ys) x y same = absurd (omega arith)
-zip_more f g (a ∷ xs) [] x y same = absurd (omega arith)
 zip_more {X} {Y} {A} {B} f g (a ∷ xs) (b ∷ ys) x y same = ap (λ (l : List (A × B)). (f a, g b) ∷ l) (zip_more f g xs ys x y (omega arith))
+zip_more f g _ _ x y same = absurd (omega arith)
 
 -- what a run comes to, given that it goes on so
 abbrev Proceeds : {F : Type 0} → May F → State F → List (Command × Answer) → State F → Type 0
@@ -40,6 +39,5 @@ nothing_left (x ∷ xs) h = absurd (omega arith)
 pub count_more :
     {X Y : Type 0} (xs : List X) (ys : List Y) (x : X) (y : Y) → length ys ≡ length xs → length (ys ++ y ∷ []) ≡ length (xs ++ x ∷ [])
 count_more [] [] x y same = refl
-count_more [] (b ∷ ys) x y same = absurd (omega arith)
-count_more (a ∷ xs) [] x y same = absurd (omega arith)
 count_more (a ∷ xs) (b ∷ ys) x y same = ap suc (count_more xs ys x y (omega arith))
+count_more _ _ x y same = absurd (omega arith)

@@ -89,14 +89,7 @@ refused : {F : Type 0} (may : May F) (f : Fixed) (m : Memory) (queues : List Que
     Acts may (state f m queues s) i q (offer m f.limit q) [] (Refused (device.Queue e)) (state f m (set queues i q') s)
 refused may f m queues i q q' s stop.OutOfMemory t there after =
     (t, record { same = unchanged f m queues i q q' s there after; no_call = refl })
-refused may f m queues i q q' s stop.Stopped t there after = (t, refl, moved f m queues i _ q' s after)
-refused may f m queues i q q' s stop.AvailIndexUnreachable t there after = (t, refl, moved f m queues i _ q' s after)
-refused may f m queues i q q' s stop.AvailTooFar t there after = (t, refl, moved f m queues i _ q' s after)
-refused may f m queues i q q' s stop.RingEntryUnreachable t there after = (t, refl, moved f m queues i _ q' s after)
-refused may f m queues i q q' s stop.HeadOutOfTable t there after = (t, refl, moved f m queues i _ q' s after)
-refused may f m queues i q q' s stop.UsedUnreachable t there after = (t, refl, moved f m queues i _ q' s after)
-refused may f m queues i q q' s stop.AvailFlagsUnreachable t there after = (t, refl, moved f m queues i _ q' s after)
-refused may f m queues i q q' s stop.DescriptorUnreachable t there after = (t, refl, moved f m queues i _ q' s after)
+refused may f m queues i q q' s _ t there after = (t, refl, moved f m queues i _ q' s after)
 
 -- a queue hands out no chain
 pub refuses : {F : Type 0} (may : May F) (f : Fixed) (m : Memory) (queues : List Queue) (i : ℕ) (q q' : Queue) (s : ℕ × F)

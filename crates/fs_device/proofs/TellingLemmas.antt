@@ -90,14 +90,7 @@ refused_leaves : {F : Type 0} (may : May F) (s : State F) (i : ℕ) (o : Option 
 refused_leaves may s i None calls e after t = ap preserved_of t.1.same
 refused_leaves may s i (Some q) calls device.NoSuchQueue after t = absurd t
 refused_leaves may s i (Some q) calls (device.Queue stop.OutOfMemory) after t = ap preserved_of t.1.same
-refused_leaves may s i (Some q) calls (device.Queue stop.Stopped) after t = ap preserved_of t.2
-refused_leaves may s i (Some q) calls (device.Queue stop.AvailIndexUnreachable) after t = ap preserved_of t.2
-refused_leaves may s i (Some q) calls (device.Queue stop.AvailTooFar) after t = ap preserved_of t.2
-refused_leaves may s i (Some q) calls (device.Queue stop.RingEntryUnreachable) after t = ap preserved_of t.2
-refused_leaves may s i (Some q) calls (device.Queue stop.HeadOutOfTable) after t = ap preserved_of t.2
-refused_leaves may s i (Some q) calls (device.Queue stop.UsedUnreachable) after t = ap preserved_of t.2
-refused_leaves may s i (Some q) calls (device.Queue stop.AvailFlagsUnreachable) after t = ap preserved_of t.2
-refused_leaves may s i (Some q) calls (device.Queue stop.DescriptorUnreachable) after t = ap preserved_of t.2
+refused_leaves may s i (Some q) calls (device.Queue _) after t = ap preserved_of t.2
 
 -- ---- kicks
 
@@ -163,14 +156,11 @@ effect_stays s (run.RemoveRegion base size) = whichever s (list_any (is_region b
 effect_stays s (run.SetLayout layout) =
     whichever s (not (list_all (is_known s.memory.host) layout)) _ _ refl
     (whichever s (not (list_all fits layout)) _ _ refl (whichever s (some_overlap layout) _ _ refl refl))
-effect_stays s (run.Map iova target n perm) = tt
-effect_stays s (run.Unmap iova n) = tt
-effect_stays s run.UnmapAll = tt
 effect_stays s (run.SetIommu on) = refl
-effect_stays s (run.Kick queue most) = tt
 effect_stays s (run.ResetQueue queue size desc avail used) = reset_stays s queue (fresh size desc avail used) _
 effect_stays s run.Image = refl
 effect_stays s run.Harvest = refl
+effect_stays s _ = tt
 
 change_stays : {F : Type 0} (s : State F) (fit : Bool) (table : Table) (answer : Answer) (after : State F) →
     ChangesTable s fit table answer after → after.files ≡ s.files
@@ -188,21 +178,11 @@ by_effect s command answer after t = decided_stays s (effect s command) answer a
 
 affect_stays : {F : Type 0} (s : State F) (command : Command) (answer : Answer) (after : State F) → Affects s command answer after →
     after.files ≡ s.files
-affect_stays s (run.GuestRead a n) answer after t = by_effect s (run.GuestRead a n) answer after t
-affect_stays s (run.GuestWrite a bs) answer after t = by_effect s (run.GuestWrite a bs) answer after t
-affect_stays s (run.NewBlock n) answer after t = by_effect s (run.NewBlock n) answer after t
-affect_stays s (run.InsertRegion base block) answer after t = by_effect s (run.InsertRegion base block) answer after t
-affect_stays s (run.RemoveRegion base size) answer after t = by_effect s (run.RemoveRegion base size) answer after t
-affect_stays s (run.SetLayout layout) answer after t = by_effect s (run.SetLayout layout) answer after t
 affect_stays s (run.Map iova target n perm) answer after t = change_stays s _ _ answer after t
 affect_stays s (run.Unmap iova n) answer after t = change_stays s _ _ answer after t
 affect_stays s run.UnmapAll answer after t = change_stays s true nothing_mapped answer after t
-affect_stays s (run.SetIommu on) answer after t = by_effect s (run.SetIommu on) answer after t
 affect_stays s (run.Kick queue most) answer after t = absurd t
-affect_stays s (run.ResetQueue queue size desc avail used) answer after t =
-    by_effect s (run.ResetQueue queue size desc avail used) answer after t
-affect_stays s run.Image answer after t = by_effect s run.Image answer after t
-affect_stays s run.Harvest answer after t = by_effect s run.Harvest answer after t
+affect_stays s command answer after t = by_effect s command answer after t
 
 effect_reports : {F : Type 0} (may : May F) (s : State F) (command : Command) (reported : Turns) (answer : Answer) (after : State F) →
     HasEffect s command reported answer after →
@@ -215,48 +195,14 @@ effect_reports may s command (x ∷ reported) answer after t = absurd t
 does_tell : {F : Type 0} (may : May F) (s : State F) (command : Command) (reported : Turns) (answer : Answer) (after : State F) →
     Does may s command reported answer after → Reports may s.files reported after.files
 does_tell may s (run.Kick i most) reported (run.Served k) after t = kicks_tell may s i most (slice_get s.queues i) reported k after t
-does_tell may s (run.Kick i most) reported run.Done after t = absurd t
-does_tell may s (run.Kick i most) reported (run.Bytes bytes) after t = absurd t
-does_tell may s (run.Kick i most) reported (run.NewBlockIs number) after t = absurd t
-does_tell may s (run.Kick i most) reported (run.Copied host) after t = absurd t
-does_tell may s (run.Kick i most) reported (run.Pages pages) after t = absurd t
-does_tell may s (run.Kick i most) reported (run.IsRefused refusal) after t = absurd t
-does_tell may s (run.GuestRead a n) reported answer after t = effect_reports may s (run.GuestRead a n) reported answer after t
-does_tell may s (run.GuestWrite a bs) reported answer after t = effect_reports may s (run.GuestWrite a bs) reported answer after t
-does_tell may s (run.NewBlock n) reported answer after t = effect_reports may s (run.NewBlock n) reported answer after t
-does_tell may s (run.InsertRegion base block) reported answer after t =
-    effect_reports may s (run.InsertRegion base block) reported answer after t
-does_tell may s (run.RemoveRegion base size) reported answer after t =
-    effect_reports may s (run.RemoveRegion base size) reported answer after t
-does_tell may s (run.SetLayout layout) reported answer after t = effect_reports may s (run.SetLayout layout) reported answer after t
-does_tell may s (run.Map iova target n perm) reported answer after t =
-    effect_reports may s (run.Map iova target n perm) reported answer after t
-does_tell may s (run.Unmap iova n) reported answer after t = effect_reports may s (run.Unmap iova n) reported answer after t
-does_tell may s run.UnmapAll reported answer after t = effect_reports may s run.UnmapAll reported answer after t
-does_tell may s (run.SetIommu on) reported answer after t = effect_reports may s (run.SetIommu on) reported answer after t
-does_tell may s (run.ResetQueue queue size desc avail used) reported answer after t =
-    effect_reports may s (run.ResetQueue queue size desc avail used) reported answer after t
-does_tell may s run.Image reported answer after t = effect_reports may s run.Image reported answer after t
-does_tell may s run.Harvest reported answer after t = effect_reports may s run.Harvest reported answer after t
+does_tell may s (run.Kick i most) reported _ after t = absurd t
+does_tell may s command reported answer after t = effect_reports may s command reported answer after t
 
 performs_tell : {F : Type 0} (may : May F) (s : State F) (command : Command) (reported : Turns) (answer : Answer) (after : State F) →
     Performs may s command reported answer after → Reports may s.files reported after.files
 performs_tell may s command [] (run.IsRefused why.OutOfMemory) after t = (ap (λ s. s.files) t.1, tt)
 performs_tell may s command (x ∷ reported) (run.IsRefused why.OutOfMemory) after t = absurd t
-performs_tell may s command reported (run.IsRefused why.NoPlace) after t = does_tell may s command reported _ after t
-performs_tell may s command reported (run.IsRefused why.EmptyBlock) after t = does_tell may s command reported _ after t
-performs_tell may s command reported (run.IsRefused why.UnknownBlock) after t = does_tell may s command reported _ after t
-performs_tell may s command reported (run.IsRefused why.BadRegion) after t = does_tell may s command reported _ after t
-performs_tell may s command reported (run.IsRefused why.Overlap) after t = does_tell may s command reported _ after t
-performs_tell may s command reported (run.IsRefused why.NoRegion) after t = does_tell may s command reported _ after t
-performs_tell may s command reported (run.IsRefused why.BadMapping) after t = does_tell may s command reported _ after t
-performs_tell may s command reported (run.IsRefused why.NoSuchQueue) after t = does_tell may s command reported _ after t
-performs_tell may s command reported run.Done after t = does_tell may s command reported _ after t
-performs_tell may s command reported (run.Bytes bytes) after t = does_tell may s command reported _ after t
-performs_tell may s command reported (run.NewBlockIs number) after t = does_tell may s command reported _ after t
-performs_tell may s command reported (run.Served k) after t = does_tell may s command reported _ after t
-performs_tell may s command reported (run.Copied host) after t = does_tell may s command reported _ after t
-performs_tell may s command reported (run.Pages pages) after t = does_tell may s command reported _ after t
+performs_tell may s command reported _ after t = does_tell may s command reported _ after t
 
 -- a run tells its calls
 pub run_reports : {F : Type 0} (may : May F) (s : State F) (events : List (Command × Answer)) (all_reported : List Turns) (after : State F)
@@ -264,9 +210,8 @@ pub run_reports : {F : Type 0} (may : May F) (s : State F) (events : List (Comma
     FileRun may s.files (calls_reported all_reported) after.files × AllByRecursion (AllByRecursion IsServed) all_reported
 unfolding RunReported
 run_reports may s [] [] after t = (ap (λ s. s.files) t, tt)
-run_reports may s [] (reported ∷ all_reported) after t = absurd t
-run_reports may s (e ∷ es) [] after t = absurd t
 run_reports may s (e ∷ es) (reported ∷ all_reported) after (mid, performs, rest) =
     let own = performs_tell may s e.0 reported e.1 mid performs in
     let others = run_reports may mid es all_reported after rest in
     (files_joined may s.files mid.files after.files (calls_of reported) (calls_reported all_reported) own.0 others.0, (own.1, others.1))
+run_reports may s _ _ after t = absurd t

@@ -19,9 +19,8 @@ use Rattle.fs_device.proofs.CatchUpLemmas.{BlockTracks, BlocksTrack, Tracks, har
 
 all_clear : (x y : List Bool) → length x ≡ length y → map (λ _. false) x ≡ map (λ _. false) y
 all_clear [] [] e = refl
-all_clear [] (b ∷ y) e = absurd (omega arith)
-all_clear (a ∷ x) [] e = absurd (omega arith)
 all_clear (a ∷ x) (b ∷ y) e = ap (λ (l : List Bool). false ∷ l) (all_clear x y (omega arith))
+all_clear _ _ e = absurd (omega arith)
 
 -- a block has a mark for each of its pages
 abbrev pub IsSized : Block → Type 0
@@ -41,9 +40,8 @@ tracks_copy h sized = record { blocks = blocks_begin h.blocks sized; tables = re
 
 blocks_sized : (xs ys : List Block) → BlocksTrack xs ys → AllByRecursion IsSized ys
 blocks_sized [] [] f = tt
-blocks_sized [] (b ∷ ys) f = absurd f
-blocks_sized (a ∷ xs) [] f = absurd f
 blocks_sized (a ∷ xs) (b ∷ ys) f = (f.0.sized, blocks_sized xs ys f.1)
+blocks_sized _ _ f = absurd f
 
 -- a host that an image tracks has a mark for each page of a block
 pub tracks-sized : (image host : Host) → Tracks image host → AllByRecursion IsSized host.blocks
@@ -53,11 +51,10 @@ tracks-sized image host f = blocks_sized image.blocks host.blocks f.blocks
 
 blocks_same : (xs ys : List Block) → BlocksTrack xs ys → caught_up xs ys ≡ map unmarked ys
 blocks_same [] [] f = refl
-blocks_same [] (b ∷ ys) f = absurd f
-blocks_same (a ∷ xs) [] f = absurd f
 blocks_same (a ∷ xs) (b ∷ ys) f =
     ap (λ (m : List Bool). let k : Block = record { bytes = b.bytes; marks = m } in k ∷ caught_up xs ys) f.0.clear
     ∙ ap (λ (l : List Block). unmarked b ∷ l) (blocks_same xs ys f.1)
+blocks_same _ _ f = absurd f
 
 -- with the marked pages put in, an image is the host, marks and all, once it is harvested
 pub harvest_is_host : (image host : Host) → Tracks image host → pages_put image (harvested host) ≡ cleared host
@@ -117,10 +114,9 @@ blocks_stored : (xs ys : List Block) (i o byte : ℕ) → BlocksTrack xs ys →
     BlocksTrack xs (changed_at (changed_at ys i (λ b. record b { bytes = set b.bytes o byte })) i
     (λ b. record b { marks = marked b.marks o }))
 blocks_stored [] [] i o byte f = tt
-blocks_stored [] (b ∷ ys) i o byte f = absurd f
-blocks_stored (a ∷ xs) [] i o byte f = absurd f
 blocks_stored (a ∷ xs) (b ∷ ys) zero o byte f = (block_stored a b o byte f.0, f.1)
 blocks_stored (a ∷ xs) (b ∷ ys) (suc i) o byte f = (f.0, blocks_stored xs ys i o byte f.1)
+blocks_stored _ _ i o byte f = absurd f
 
 -- a byte that is stored marks its page
 pub tracks_store : (image host : Host) (p : Place) (byte : ℕ) → p.io ≡ None → Tracks image host → Tracks image (put_byte host p byte)
@@ -153,10 +149,9 @@ blocks_stale : (xs ys : List Block) (i o : ℕ) → BlocksTrack xs ys →
     ≢ option_and_then (λ (b : Block). slice_get b.bytes o) (slice_get ys i) →
     option_and_then (λ (b : Block). slice_get b.marks (o / 4096)) (slice_get ys i) ≡ Some true
 blocks_stale [] [] i o f stale = absurd (stale refl)
-blocks_stale [] (b ∷ ys) i o f stale = absurd f
-blocks_stale (a ∷ xs) [] i o f stale = absurd f
 blocks_stale (a ∷ xs) (b ∷ ys) zero o f stale = block_stale a b o f.0 stale
 blocks_stale (a ∷ xs) (b ∷ ys) (suc i) o f stale = blocks_stale xs ys i o f.1 stale
+blocks_stale _ _ i o f stale = absurd f
 
 -- a place where an image differs lies on a marked page
 pub stale_marked : (image host : Host) (p : Place) → Tracks image host → byte_at image p ≢ byte_at host p →
@@ -167,10 +162,9 @@ stale_marked image host p f stale = blocks_stale image.blocks host.blocks p.bloc
 
 blocks_lengths : (xs ys : List Block) → BlocksTrack xs ys → map (λ (b : Block). length b.bytes) xs ≡ map (λ (b : Block). length b.bytes) ys
 blocks_lengths [] [] f = refl
-blocks_lengths [] (b ∷ ys) f = absurd f
-blocks_lengths (a ∷ xs) [] f = absurd f
 blocks_lengths (a ∷ xs) (b ∷ ys) f =
     ap (λ n. n ∷ map (λ (k : Block). length k.bytes) xs) f.0.len ∙ ap (λ (l : List ℕ). length b.bytes ∷ l) (blocks_lengths xs ys f.1)
+blocks_lengths _ _ f = absurd f
 
 -- an image has the lengths of the host
 pub tracks-lengths : (image host : Host) → Tracks image host → lengths image ≡ lengths host
@@ -245,8 +239,6 @@ blocks_placed : (front : List ℕ) (xs ys : List Block) → BlocksTrack xs ys �
     HavePlaces (front ++ map (λ (b : Block). length b.bytes) ys) (host_pages (length front) ys)
 unfolding host_pages
 blocks_placed front [] [] f = no_page (front ++ [])
-blocks_placed front [] (b ∷ ys) f = absurd f
-blocks_placed front (a ∷ xs) [] f = absurd f
 blocks_placed front (a ∷ xs) (b ∷ ys) f =
     let n = length b.bytes in
     let back = map (λ (k : Block). length k.bytes) ys in
@@ -255,6 +247,7 @@ blocks_placed front (a ∷ xs) (b ∷ ys) f =
     places-append (front ++ n ∷ back) (block_pages (length front) b.bytes 0 b.marks) (host_pages (length front + 1) ys)
     (block_placed (front ++ n ∷ back) (length front) b.bytes 0 b.marks (at_seam front back n) (omega (arith, f.0.sized)))
     (subst (λ (l : List ℕ). HavePlaces l (host_pages (length front + 1) ys)) (append_assoc front (n ∷ []) back) later)
+blocks_placed front _ _ f = absurd f
 
 -- the marked pages of a host have their places in an image that tracks it
 pub harvest_placed : (image host : Host) → Tracks image host → HavePlaces (lengths image) (harvested host)

@@ -45,12 +45,11 @@ some_left k false h = omega arith
 
 few_from : (size n : ℕ) (cs : List (Option (List ℕ))) (a : Ahead) → IsNear size n a → length (loads_by size cs a) ≤ n
 unfolding loads_by
-few_from size n [] a near = omega arith
-few_from size n (c ∷ cs) (Ends f) near = omega arith
 few_from size zero (c ∷ cs) (Reads v) near = absurd (some_left (size - v.earlier) v.table.indirect near.1)
 few_from size (suc n) (c ∷ cs) (Reads v) near =
     let rest = few_from size n cs (ahead_after size v (step_by size v (load_at v c))) (near_after size n v (load_at v c) near.0 near.1) in
     omega (arith, rest)
+few_from size n _ _ near = omega arith
 
 pub few_loads : FewLoads
 few_loads q head came = few_from q.size (q.size + 2) came (ahead_at q.size (first_visit q head))

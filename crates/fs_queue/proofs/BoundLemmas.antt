@@ -24,8 +24,7 @@ either P false x y p q = q refl
 pub Allows : (size : ℕ) → Visit → WalkStep → Type 0
 Allows size v (Ordinary d) = eqb v.earlier size ≡ false
 Allows size v (Indirect t) = (v.table.indirect ≡ false) × (t.indirect ≡ true)
-Allows size v (Faulty f) = Unit {0}
-Allows size v Stops = Unit {0}
+Allows size v _ = Unit {0}
 
 faulty : (size : ℕ) (v : Visit) (f : ChainFault) → Allows size v (Faulty f)
 unfolding Allows
@@ -85,8 +84,7 @@ falls size v (Ordinary d) le h =
     let some : (v.earlier ≡ size → ⊥) = eqb-false v.earlier size h in
     if_more size (has_next d) _ _ (omega (arith, some, le)) (omega (arith, some, le))
 falls size v (Indirect t) le h = (rw (h.0, h.1) (omega arith), le)
-falls size v (Faulty f) le h = tt
-falls size v Stops le h = tt
+falls size v _ le h = tt
 
 mutual_step :
     (m : Memory) (size n : ℕ) → ((w : Visit) → w.earlier ≤ size → steps_left size w ≤ n → path m size n w ≡ path m size (suc n) w) →

@@ -9,7 +9,7 @@ use Rattle.fs_queue.specs.declared.fault.ChainFault.TheVariants.{OverLimit, Requ
 use Rattle.fs_queue.specs.Queue.{Queue, element_at, index_at}
 use Rattle.fs_queue.specs.NextAvail.{NextAvail}
 use Rattle.fs_queue.specs.NextAvail as avail
-use Rattle.fs_queue.specs.Chain.{Descriptor, Found, IsChain, HasFault, StopsQueue}
+use Rattle.fs_queue.specs.Chain.{Descriptor, Found, IsChain}
 use Rattle.fs_queue.specs.Taking.{IsRequest, CannotFetch, readable, writable, total_len, all_reach, Offer, Refuses, Offers, offer_of}
 use Rattle.fs_queue.specs.Loads.{Load, chain_exactly}
 use Rattle.fs_queue.specs.OfferLoads.{without_chain, without_loads, available_by, with_request, with_loaded, on_waits, SameReachOfChain}
@@ -33,10 +33,8 @@ fetched_alike : (bs r s room : List ℕ) (over a b : Bool) → length r ≡ leng
     else if not b then CannotFetch RoomUnreachable else IsRequest r room)
     ≡ with_request bs (if over then CannotFetch OverLimit else if not a then CannotFetch RequestUnreachable
     else if not b then CannotFetch RoomUnreachable else IsRequest s room)
-fetched_alike bs r s room true a b same = refl
-fetched_alike bs r s room false false b same = refl
-fetched_alike bs r s room false true false same = refl
 fetched_alike bs r s room false true true same = ap (λ k. if length bs == k then Some (IsRequest bs room) else None) same
+fetched_alike bs r s room _ _ _ same = refl
 
 chain_alike : (m n : Memory) (limit head : ℕ) (bs : List ℕ) (ds : List Descriptor) → SameReachOfChain m n ds →
     with_loaded bs (offer_of m limit head (IsChain ds)) ≡ with_loaded bs (offer_of n limit head (IsChain ds))
@@ -56,15 +54,11 @@ chain_alike m n limit head bs ds (reads, writes) =
 found_alike : (m n : Memory) (limit head : ℕ) (bs : List ℕ) (o : Option Found) →
     ((ds : List Descriptor) → o ≡ Some (IsChain ds) → SameReachOfChain m n ds) →
     option_and_then (λ f. with_loaded bs (offer_of m limit head f)) o ≡ option_and_then (λ f. with_loaded bs (offer_of n limit head f)) o
-found_alike m n limit head bs None same = refl
 found_alike m n limit head bs (Some (IsChain ds)) same = chain_alike m n limit head bs ds (same ds refl)
-found_alike m n limit head bs (Some (HasFault fault)) same = refl
-found_alike m n limit head bs (Some StopsQueue) same = refl
+found_alike m n limit head bs _ same = refl
 
 waits_alike : (m n : Memory) (limit : ℕ) (q : Queue) (ls : List Load) (bs : List ℕ) (w : NextAvail) → SameReach m n q ls →
     on_waits m limit q ls bs w ≡ on_waits n limit q ls bs w
-waits_alike m n limit q ls bs avail.Idle same = refl
-waits_alike m n limit q ls bs (avail.Refused e) same = refl
 waits_alike m n limit q ls bs (avail.Head head) same =
     let by : Bool → Bool → Bool → Option Offer → Option Offer =
     λ a b c o. if not (a && b) then without_chain ls bs (Refuses stop.UsedUnreachable)
@@ -75,6 +69,7 @@ waits_alike m n limit q ls bs (avail.Head head) same =
     ∙ ap (λ c. by (reach n Write (element_at q) 8) (reach n Write (index_at q) 2) c at_m) same.flags
     ∙ ap (by (reach n Write (element_at q) 8) (reach n Write (index_at q) 2) (reach n Read q.avail 2))
     (found_alike m n limit head bs (chain_exactly ls q head) (same.chain head))
+waits_alike m n limit q ls bs _ same = refl
 
 each_alike :
     (g h : NextAvail → Option Offer) (o : Option NextAvail) → ((w : NextAvail) → g w ≡ h w) → option_and_then g o ≡ option_and_then h o

@@ -9,8 +9,7 @@ use Rattle.vm_iotlb.specs.declared.permissions.Permissions.TheVariants.{Read}
 use Rattle.vm_memory.specs.Memory.{Memory, reach}
 use Rattle.fs_queue.specs.declared.fault.ChainFault.{ChainFault}
 use Rattle.fs_queue.specs.declared.fault.ChainFault.TheVariants.{TooLong, NextOutOfTable, AddressOverflow, IndirectWithNext, IndirectNested}
-use Rattle.fs_queue.specs.declared.fault.ChainFault.TheVariants.{IndirectLength, TableUnreachable, OverLimit, RequestUnreachable}
-use Rattle.fs_queue.specs.declared.fault.ChainFault.TheVariants.{RoomUnreachable}
+use Rattle.fs_queue.specs.declared.fault.ChainFault.TheVariants.{IndirectLength, TableUnreachable}
 use Rattle.fs_queue.specs.Queue.{Queue}
 use Rattle.fs_queue.specs.Chain.{Descriptor, DescriptorTable, Visit, WalkStep, Ordinary, Indirect, Faulty, Stops, has_next, is_indirect}
 use Rattle.fs_queue.specs.Chain.{ends_in_64_bits, indirect_step, ordinary_step, walk_step}
@@ -254,9 +253,7 @@ fault_step m q v AddressOverflow (inr h) =
     (fewer v.earlier q.size h.room, lt-ltb 0 (entry_of m v).len h.some, le-ltb ((entry_of m v).addr + (entry_of m v).len) (2 ^ 64) h.past)
     refl
 fault_step m q v TooLong h = at_ordinary m q.size v h.0 ∙ rw (eq-eqb v.earlier q.size h.1) refl
-fault_step m q v OverLimit h = absurd h
-fault_step m q v RequestUnreachable h = absurd h
-fault_step m q v RoomUnreachable h = absurd h
+fault_step m q v _ h = absurd h
 
 -- what a step that passes adds to what others are found to be
 adds : (m : Memory) (q : Queue) (v : Visit) (r : Found) → Passes m q v →

@@ -30,11 +30,10 @@ unless_refused true e o waits = refl
 unless_refused false e o waits = waits
 
 by_ring : (m : Memory) (limit : ℕ) (q : Queue) (n : NextAvail) → is_idle (on_next_avail m limit q n) ≡ reports_idle (HasResult n)
-by_ring m limit q avail.Idle = refl
-by_ring m limit q (avail.Refused e) = refl
 by_ring m limit q (avail.Head head) =
     unless_refused (not (reach m Write (element_at q) 8 && reach m Write (index_at q) 2)) stop.UsedUnreachable _
     (unless_refused (not (reach m Read q.avail 2)) stop.AvailFlagsUnreachable _ (found_waits m limit head (chain m q head)))
+by_ring m limit q _ = refl
 
 pub ring_is_idle : (m : Memory) (limit : ℕ) (q : Queue) (stage : Stage) → q.stopped ≡ false → stage ≡ HasResult (next_avail m q) →
     is_idle (offer m limit q) ≡ reports_idle stage
@@ -44,7 +43,4 @@ ring_is_idle m limit q stage on reported =
 -- no other end of a walk tells it
 pub waits_unless_idle : (w : Walk) → (w ≡ walk.Idle → ⊥) → reports_idle (stage_of w) ≡ false
 waits_unless_idle walk.Idle not-idle = absurd (not-idle refl)
-waits_unless_idle (walk.Refused e) not-idle = refl
-waits_unless_idle (walk.Chain head first) not-idle = refl
-waits_unless_idle (walk.Index w) not-idle = refl
-waits_unless_idle (walk.RingEntry w) not-idle = refl
+waits_unless_idle _ not-idle = refl

@@ -75,9 +75,8 @@ offer_head m limit l position at e =
     ∙ on_head-return_places m limit l position at
 
 stays_offered : (m : Memory) (limit h : ℕ) (f : Found) → DoesNotStop f → may_lack_memory (offer_of m limit h f) ≡ true
-stays_offered m limit h (IsChain ds) stays = refl
-stays_offered m limit h (HasFault fault) stays = refl
 stays_offered m limit h StopsQueue stays = absurd stays
+stays_offered m limit h _ stays = refl
 
 nothing_missing : (p : ReturnPlaces) (rest : Offer) → missing_of p ≡ None → on_return_places p rest ≡ rest
 nothing_missing (held.HasBoth used flags) rest e = refl
@@ -116,9 +115,8 @@ held_missing p a b e = sym (ap missing_of e)
 -- the windows of the return are those of their addresses
 pub found_return_places : (used flags : List Place) (o1 o2 : Option (List Place)) → held.HasBoth used flags ≡ return_places_found o1 o2 →
     (o1 ≡ Some used) × (o2 ≡ Some flags)
-found_return_places used flags None o2 e = absurd (cc)
-found_return_places used flags (Some a) None e = absurd (cc)
 found_return_places used flags (Some a) (Some b) e = (cc, cc)
+found_return_places used flags _ _ e = absurd (cc)
 
 pub offer_lacks :
     (m : Memory) (limit : ℕ) (l : QueueLayout) (position at : ℕ) (e : QueueError) → avail.Head at ≡ next_avail m (at_position l position) →
@@ -140,14 +138,7 @@ offer_found m limit l position at a b f head places found =
 pub refuses :
     (m : Memory) (limit : ℕ) (q : Queue) (e : QueueError) → IsTrue (stops_queue e) → offer m limit q ≡ Refuses e → Takes m limit q (Err e)
 refuses m limit q stop.OutOfMemory stops is = absurd (cc)
-refuses m limit q stop.Stopped stops is = is
-refuses m limit q stop.AvailIndexUnreachable stops is = is
-refuses m limit q stop.AvailTooFar stops is = is
-refuses m limit q stop.RingEntryUnreachable stops is = is
-refuses m limit q stop.HeadOutOfTable stops is = is
-refuses m limit q stop.UsedUnreachable stops is = is
-refuses m limit q stop.AvailFlagsUnreachable stops is = is
-refuses m limit q stop.DescriptorUnreachable stops is = is
+refuses m limit q _ stops is = is
 
 -- so is a refusal of the walk, if the return can be written
 pub refused_walk :
@@ -157,29 +148,16 @@ pub refused_walk :
 refused_walk m limit l position at stop.OutOfMemory head none r = lacks_memory m limit l position at head none r
 refused_walk m limit l position at stop.DescriptorUnreachable head none r =
     offer_head m limit l position at head ∙ nothing_missing _ _ none ∙ ap (offer_of m limit at) r
-refused_walk m limit l position at stop.Stopped head none r = absurd r
-refused_walk m limit l position at stop.AvailIndexUnreachable head none r = absurd r
-refused_walk m limit l position at stop.AvailTooFar head none r = absurd r
-refused_walk m limit l position at stop.RingEntryUnreachable head none r = absurd r
-refused_walk m limit l position at stop.HeadOutOfTable head none r = absurd r
-refused_walk m limit l position at stop.UsedUnreachable head none r = absurd r
-refused_walk m limit l position at stop.AvailFlagsUnreachable head none r = absurd r
+refused_walk m limit l position at _ head none r = absurd r
 
 chain_wants : (limit room : ℕ) (f : Found) → WantsMemory limit room f → DoesNotStop f
-chain_wants limit room (IsChain ds) wants = tt
-chain_wants limit room (HasFault fault) wants = tt
 chain_wants limit room StopsQueue wants = absurd wants
+chain_wants limit room _ wants = tt
 
 held_found : (limit room : ℕ) (f : Found) (e : QueueError) → RefusesHeld limit room f e → RefusesFound f e
 held_found limit room f stop.OutOfMemory r = chain_wants limit room f r
 held_found limit room f stop.DescriptorUnreachable r = r
-held_found limit room f stop.Stopped r = absurd r
-held_found limit room f stop.AvailIndexUnreachable r = absurd r
-held_found limit room f stop.AvailTooFar r = absurd r
-held_found limit room f stop.RingEntryUnreachable r = absurd r
-held_found limit room f stop.HeadOutOfTable r = absurd r
-held_found limit room f stop.UsedUnreachable r = absurd r
-held_found limit room f stop.AvailFlagsUnreachable r = absurd r
+held_found limit room f _ r = absurd r
 
 pub refused_found : (m : Memory) (limit room : ℕ) (l : QueueLayout) (position at : ℕ) (a b : List Place) (e : QueueError) →
     avail.Head at ≡ next_avail m (at_position l position) →

@@ -69,9 +69,8 @@ room_stored : (m : Memory) (reply : List ℕ) (fetched : RequestAndRoom) (chain 
     stored_all m (zip (room_of fetched) reply) ≡ over m (put_all m.host (zip (chain_places chain) reply))
 unfolding stored_all put_all
 room_stored m reply (IsRequest request room) (Ok c) held = stored_located room (places c.writable.items) reply m held.1
-room_stored m reply (IsRequest request room) (Err fault) held = absurd held
-room_stored m reply (CannotFetch why) (Ok c) held = absurd held
 room_stored m reply (CannotFetch why) (Err fault) held = refl
+room_stored m reply _ _ held = absurd held
 
 -- a store through windows that were held before
 stored_held : (m : Memory) (h h' : Host) (as' xs : List ℕ) (ws vs : List Window) → h.tables ≡ m.host.tables →

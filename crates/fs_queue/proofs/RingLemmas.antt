@@ -82,10 +82,8 @@ pick b z far rest = if not b then Refused AvailIndexUnreachable else if z then I
 
 picked : (b z far : Bool) (rest : NextAvail) → asks_entry (pick b z far (Refused RingEntryUnreachable)) ≡ false →
     pick b z far (Refused RingEntryUnreachable) ≡ pick b z far rest
-picked false z far rest e = refl
-picked true true far rest e = refl
-picked true false true rest e = refl
 picked true false false rest e = absurd (cc)
+picked _ _ _ rest e = refl
 
 -- where the entry isn't asked for it makes no difference
 reported_alone : (q : Queue) (b c : Bool) (h k w : ℕ) → asks_entry (reported q b w false h) ≡ false
@@ -263,9 +261,8 @@ index_reports q i bs n w is len fits n-is w-is =
     ∙ ap (λ x. pick true (x == 0) (nat_lt q.size x) (Refused RingEntryUnreachable)) wait
 
 asked : (z far : Bool) (rest : NextAvail) → asks_entry (pick true z far (Refused RingEntryUnreachable)) ≡ true → pick true z far rest ≡ rest
-asked true far rest e = absurd (cc)
-asked false true rest e = absurd (cc)
 asked false false rest e = refl
+asked _ _ rest e = absurd (cc)
 
 abbrev pub entry_shows : Queue → Bool → ℕ → NextAvail
 entry_shows q c n = if not c then Refused RingEntryUnreachable else if nat_le q.size n then Refused HeadOutOfTable else Head n

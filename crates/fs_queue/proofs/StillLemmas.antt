@@ -8,7 +8,7 @@ use Rattle.vm_iotlb.specs.declared.permissions.Permissions.TheVariants.{Read}
 use Rattle.vm_memory.specs.Memory.{Memory, bytes, reach}
 use Rattle.fs_queue.specs.declared.fault.ChainFault.TheVariants.{NextOutOfTable}
 use Rattle.fs_queue.specs.Queue.{Queue}
-use Rattle.fs_queue.specs.Chain.{Visit, WalkStep, Ordinary, Indirect, Faulty, Stops, walk_step, next_visit, onward, path, first_visit}
+use Rattle.fs_queue.specs.Chain.{Visit, WalkStep, Ordinary, Faulty, walk_step, next_visit, onward, path, first_visit}
 use Rattle.fs_queue.specs.Chain.{after_walk_step, Found, IsChain, found, chain}
 use Rattle.fs_queue.specs.Chain.{entry_address}
 use Rattle.fs_queue.specs.Loads.{Load, Ahead, Reads, Ends, holding, reads_entry, step_by, ahead_at, ahead_after, ahead_of_next, end_of}
@@ -64,9 +64,7 @@ at_found m size k v = by_test (reads_entry v) refl
 
 end_found : (w : WalkStep) → after_walk_step w (IsChain []) ≡ after_walk_step w (end_of w)
 end_found (Ordinary d) = refl
-end_found (Indirect t) = refl
-end_found (Faulty f) = refl
-end_found Stops = refl
+end_found _ = refl
 
 next_found : (m : Memory) (size k : ℕ) (w : WalkStep) (o : Option Visit) →
     after_walk_step w (found m size (onward (path m size (suc k)) o)) ≡ after_walk_step w (found_in m size (suc k) (ahead_of_next size w o))
@@ -121,21 +119,19 @@ ended size (l ∷ ls) f = refl
 
 exact_step : (g : Found → Found) (x y : Option Found) (f : Found) (a b : Bool) → ((h : Found) → x ≡ Some h → y ≡ Some h) →
     (if a && b then option_map g x else None) ≡ Some f → (if a then option_map g y else None) ≡ Some f
-exact_step g x y f false b more e = absurd (cc)
-exact_step g x y f true false more e = absurd (cc)
 exact_step g x y f true true more e = let got = mapped g x f e in ap (option_map g) (more got.0 got.1) ∙ ap Some got.2
+exact_step g x y f _ _ more e = absurd (cc)
 
 exact_from :
     (size : ℕ) (ls more : List Load) (a : Ahead) (f : Found) → found_exactly size ls a ≡ Some f → found_by size (ls ++ more) a ≡ Some f
 unfolding found_by found_exactly
 exact_from size [] more (Ends g) f e = ended size more g ∙ e
-exact_from size [] more (Reads v) f e = absurd (cc)
-exact_from size (l ∷ ls) more (Ends g) f e = absurd (cc)
 exact_from size (l ∷ ls) more (Reads v) f e =
     let w = step_by size v l in
     exact_step (after_walk_step w) (found_exactly size ls (ahead_after size v w)) (found_by size (ls ++ more) (ahead_after size v w)) f
     (l.address == entry_address v) (is_whole 16 l.came)
     (λ h is. exact_from size ls more (ahead_after size v w) h is) e
+exact_from size _ more _ f e = absurd (cc)
 
 pub leaves_the_rest : LeavesTheRest
 leaves_the_rest q head ls more f e = exact_from q.size ls more (ahead_at q.size (first_visit q head)) f e

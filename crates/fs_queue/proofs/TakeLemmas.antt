@@ -31,9 +31,8 @@ use Rattle.vm_memory.proofs.RangeLemmas.{all_located}
 parts : (o : Option Place) (r : Option (List Place)) (ps : List Place) →
     option_and_then (λ (p : Place). option_map (λ (qs : List Place). p ∷ qs) r) o ≡ Some ps →
     (p : Place) × (qs : List Place) × (o ≡ Some p) × (r ≡ Some qs) × (ps ≡ p ∷ qs)
-parts None r ps e = absurd (cc)
-parts (Some p) None ps e = absurd (cc)
 parts (Some p) (Some qs) ps e = (p, qs, refl, refl, cc)
+parts _ _ ps e = absurd (cc)
 
 -- each address has one place
 pub length-located : (xs : List ℕ) (f : Where) (ps : List Place) → located f xs ≡ Some ps → length ps ≡ length xs
@@ -69,16 +68,14 @@ after_empty (Some qs) ps e = e
 -- ---- one direction
 
 same_bool : (w b : Bool) → beq w b ≡ true → w ≡ b
-same_bool true true e = refl
 same_bool true false e = absurd (cc)
 same_bool false true e = absurd (cc)
-same_bool false false e = refl
+same_bool _ _ e = refl
 
 other_bool : (w b : Bool) → beq w b ≡ false → w ≡ not b
-other_bool true true e = absurd (cc)
 other_bool true false e = refl
 other_bool false true e = refl
-other_bool false false e = absurd (cc)
+other_bool _ _ e = absurd (cc)
 
 direction-preserved :
     (b : Bool) (d : Descriptor) (ds : List Descriptor) → beq (is_writable d) b ≡ true → of_direction b (d ∷ ds) ≡ d ∷ of_direction b ds
@@ -228,10 +225,8 @@ found_all m access ds false ps all e = all_reach-located m access ds all ∙ ap 
 by_tests : (over r w : Bool) → true ≡ not (is_some (if over then Some OverLimit else if not r then Some RequestUnreachable
     else if not w then Some RoomUnreachable else None)) →
     (over ≡ false) × (r ≡ true) × (w ≡ true)
-by_tests true r w none = absurd (cc)
-by_tests false false w none = absurd (cc)
-by_tests false true false none = absurd (cc)
 by_tests false true true none = (refl, refl, refl)
+by_tests _ _ _ none = absurd (cc)
 
 -- what a chain without a fault passed
 no_fault : (m : Memory) (limit : ℕ) (ds : List Descriptor) → true ≡ not (is_some (chain_fault m limit ds)) →

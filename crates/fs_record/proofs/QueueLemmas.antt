@@ -82,13 +82,7 @@ queue_refuses bytes part page_size limit v options count index queues ReadFault 
     inr (inl (v, options, count, queues, bytes, part, proceeds, front, omega (arith, at, below), refl, h))
 queue_refuses bytes part page_size limit v options count index queues (BadQueue i) proceeds front at below h =
     (v, options, count, queues, bytes, h.1, proceeds, front, at ∙ sym h.0, omega (arith, below, h.0), ap (λ l. bytes ++ l) h.2, h.3, h.4)
-queue_refuses bytes part page_size limit v options count index queues BadMagic proceeds front at below h = absurd h
-queue_refuses bytes part page_size limit v options count index queues BadVersion proceeds front at below h = absurd h
-queue_refuses bytes part page_size limit v options count index queues BadCount proceeds front at below h = absurd h
-queue_refuses bytes part page_size limit v options count index queues BadReserved proceeds front at below h = absurd h
-queue_refuses bytes part page_size limit v options count index queues BadOptions proceeds front at below h = absurd h
-queue_refuses bytes part page_size limit v options count index queues OutOfMemory proceeds front at below h = absurd h
-queue_refuses bytes part page_size limit v options count index queues Mismatch proceeds front at below h = absurd h
+queue_refuses bytes part page_size limit v options count index queues _ proceeds front at below h = absurd h
 
 -- a source that hadn't failed before is left so too
 pub leaves_too : (e : RestoreError) (has : Option (List ℕ)) (before failed fails : Bool) → failed ≡ before →
@@ -163,13 +157,7 @@ end_refuses bytes part v page_size limit options count queues Mismatch front all
       h.3,
       h.4,
     )
-end_refuses bytes part v page_size limit options count queues (BadQueue i) front all h = absurd h
-end_refuses bytes part v page_size limit options count queues BadMagic front all h = absurd h
-end_refuses bytes part v page_size limit options count queues BadVersion front all h = absurd h
-end_refuses bytes part v page_size limit options count queues BadCount front all h = absurd h
-end_refuses bytes part v page_size limit options count queues BadReserved front all h = absurd h
-end_refuses bytes part v page_size limit options count queues BadOptions front all h = absurd h
-end_refuses bytes part v page_size limit options count queues OutOfMemory front all h = absurd h
+end_refuses bytes part v page_size limit options count queues _ front all h = absurd h
 
 -- ---- what is wrong with a head
 

@@ -61,16 +61,12 @@ limit_fits limit h = (h, tt)
 
 no_overflow : (size misaligned ends : Bool)
     → (if size then Some BadSize else if misaligned then Some Misaligned else if ends then Some EndOverflow else None) ≡ None → ends ≡ false
-no_overflow true misaligned ends h = absurd (cc)
-no_overflow false true ends h = absurd (cc)
-no_overflow false false true h = absurd (cc)
 no_overflow false false false h = refl
+no_overflow _ _ _ h = absurd (cc)
 
 neither : (a b c : Bool) → (a || b || c) ≡ false → (a ≡ false) × (b ≡ false) × (c ≡ false)
 neither false false false h = (refl, refl, refl)
-neither true b c h = absurd (cc)
-neither false true c h = absurd (cc)
-neither false false true h = absurd (cc)
+neither _ _ _ h = absurd (cc)
 
 parts_fit : (size desc avail used : ℕ) → layout_error size desc avail used ≡ None → (desc < 2 ^ 64) × (avail < 2 ^ 64) × (used < 2 ^ 64)
 parts_fit size desc avail used lawful =
@@ -94,10 +90,9 @@ queue_fits q h =
 -- ---- equal parts are of equal values
 
 flag_once : (a b : Bool) → flag a ≡ flag b → a ≡ b
-flag_once true true h = refl
-flag_once false false h = refl
 flag_once true false h = absurd (omega (arith, h))
 flag_once false true h = absurd (omega (arith, h))
+flag_once _ _ h = refl
 
 same_saved : (x y : Queue) → queue_fields (saved x) ≡ queue_fields (saved y) → x ≡ y
 same_saved x y h =
@@ -121,8 +116,6 @@ lawful_others x xs all = λ k d below. all (suc k) d (omega (arith, below))
 queues_once : (xs ys : List Queue) (s t : List ℕ) → length xs ≡ length ys → All IsSavedQueue xs → All IsSavedQueue ys
     → flat_map queue_bytes xs ++ s ≡ flat_map queue_bytes ys ++ t → (xs ≡ ys) × (s ≡ t)
 queues_once [] [] s t l p q e = (refl, e)
-queues_once [] (y ∷ ys) s t l p q e = absurd (omega (arith, l))
-queues_once (x ∷ xs) [] s t l p q e = absurd (omega (arith, l))
 queues_once (x ∷ xs) (y ∷ ys) s t l p q e =
     let apart : queue_bytes x ++ (flat_map queue_bytes xs ++ s) ≡ queue_bytes y ++ (flat_map queue_bytes ys ++ t) =
     sym (append_assoc (queue_bytes x) (flat_map queue_bytes xs) s) ∙ ap (λ l. l ++ s) (sym (flat_map-cons queue_bytes x xs)) ∙ e
@@ -134,6 +127,7 @@ queues_once (x ∷ xs) (y ∷ ys) s t l p q e =
     let one : x ≡ y = same_saved x y fields in
     let others = queues_once xs ys s t (omega (arith, l)) (lawful_others x xs p) (lawful_others y ys q) cut.1 in
     (λ i. one i ∷ others.0 i, others.1)
+queues_once _ _ s t l p q e = absurd (omega (arith, l))
 
 -- ---- what stands behind the queues
 
@@ -144,14 +138,13 @@ ends_once : (v v' : Version) (s t : List ℕ) → HasItsBits v → HasItsBits v'
     → page_size_word v ≡ page_size_word v'
     → end_bytes v ++ s ≡ end_bytes v' ++ t → (v ≡ v') × (s ≡ t)
 ends_once First First s t b b' number size e = (refl, e)
-ends_once First (Second page_size limit) s t b b' number size e = absurd (omega (arith, number))
-ends_once (Second page_size limit) First s t b b' number size e = absurd (omega (arith, number))
 ends_once (Second page_size limit) (Second page_size' limit') s t b b' number size e =
     let cut = halves (spelled (limit_fields limit)) (spelled (limit_fields limit')) s t
     (limit_length limit ∙ sym (limit_length limit')) e in
     let fields = fields_once (limit_fields limit) (limit_fields limit') refl (limit_fits limit b.1) (limit_fits limit' b'.1) cut.0 in
     let same : limit ≡ limit' = same_limit limit limit' fields in
     (λ i. Second (size i) (same i), cut.1)
+ends_once _ _ s t b b' number size e = absurd (omega (arith, number))
 
 -- ---- a record
 

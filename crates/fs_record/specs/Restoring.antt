@@ -99,65 +99,39 @@ RefusesRecord bytes page_size limit Mismatch =
 -- the source after an error: at its end, failed, or failed exactly if it had failed before
 abbrev pub LeavesSource : RestoreError → (has : Option (List ℕ)) → (failed fails : Bool) → Type 0
 LeavesSource Truncated has failed fails = IsAtEnd has × (fails ≡ failed)
-LeavesSource BadMagic has failed fails = fails ≡ failed
-LeavesSource BadVersion has failed fails = fails ≡ failed
-LeavesSource BadCount has failed fails = fails ≡ failed
-LeavesSource BadReserved has failed fails = fails ≡ failed
-LeavesSource (BadQueue i) has failed fails = fails ≡ failed
-LeavesSource BadOptions has failed fails = fails ≡ failed
 LeavesSource ReadFault has failed fails = fails ≡ true
-LeavesSource OutOfMemory has failed fails = fails ≡ failed
-LeavesSource Mismatch has failed fails = fails ≡ failed
+LeavesSource _ has failed fails = fails ≡ failed
 
 -- whether an error ends a read before it has all of its bytes
 abbrev pub ends_early : RestoreError → Bool
 ends_early Truncated = true
-ends_early BadMagic = false
-ends_early BadVersion = false
-ends_early BadCount = false
-ends_early BadReserved = false
-ends_early (BadQueue i) = false
-ends_early BadOptions = false
 ends_early ReadFault = true
-ends_early OutOfMemory = false
-ends_early Mismatch = false
+ends_early _ = false
 
 -- the bytes that were read for a queue explain the error: too few, or the fields of no queue
 abbrev pub RefusesQueue : List ℕ → (index : ℕ) → RestoreError → Type 0
 RefusesQueue bytes index Truncated = length bytes < 32
-RefusesQueue bytes index BadMagic = ⊥
-RefusesQueue bytes index BadVersion = ⊥
-RefusesQueue bytes index BadCount = ⊥
-RefusesQueue bytes index BadReserved = ⊥
 RefusesQueue bytes index (BadQueue i) =
     (i ≡ index)
     × (bad : SavedQueue)
     × (bytes ≡ spelled (queue_fields bad))
     × AllFit (queue_fields bad)
     × (is_queue bad ≡ false)
-RefusesQueue bytes index BadOptions = ⊥
 RefusesQueue bytes index ReadFault = length bytes < 32
-RefusesQueue bytes index OutOfMemory = ⊥
-RefusesQueue bytes index Mismatch = ⊥
+RefusesQueue bytes index _ = ⊥
 
 -- the bytes that were read after the queues explain the error: too few for the limit of version 2, or
 -- another limit
 abbrev pub RefusesEnd : List ℕ → RecordVersion → (limit : ℕ) → RestoreError → Type 0
 RefusesEnd bytes version limit Truncated = (version ≡ versions.Second) × (length bytes < 8)
-RefusesEnd bytes version limit BadMagic = ⊥
-RefusesEnd bytes version limit BadVersion = ⊥
-RefusesEnd bytes version limit BadCount = ⊥
-RefusesEnd bytes version limit BadReserved = ⊥
-RefusesEnd bytes version limit (BadQueue i) = ⊥
-RefusesEnd bytes version limit BadOptions = ⊥
 RefusesEnd bytes version limit ReadFault = (version ≡ versions.Second) × (length bytes < 8)
-RefusesEnd bytes version limit OutOfMemory = ⊥
 RefusesEnd bytes version limit Mismatch =
     (version ≡ versions.Second)
     × (other : ℕ)
     × (bytes ≡ spelled (limit_fields other))
     × (other < 2 ^ 64)
     × (other ≢ limit)
+RefusesEnd bytes version limit _ = ⊥
 
 -- a version with the page size and the limit that version 2 has
 abbrev pub reported_by : RecordVersion → (page_size limit : ℕ) → Version

@@ -10,8 +10,7 @@ use Rattle.vm_memory.specs.Layout.{Region, fits}
 use Rattle.vm_memory.specs.Memory.{Memory, location, physical, reach, stored, stored_at, stored_all}
 use Rattle.fs_queue.specs.declared.fault.QueueError.TheVariants as stop
 use Rattle.fs_queue.specs.Queue.{Queue}
-use Rattle.fs_queue.specs.Taking.{Offer, IsRequest, CannotFetch, Refuses, Offers, after_refusal, offer}
-use Rattle.fs_queue.specs.Taking as taking
+use Rattle.fs_queue.specs.Taking.{Offer, IsRequest, CannotFetch, Offers, after_refusal, offer}
 use Rattle.fs_queue.specs.Returning.{writes}
 use Rattle.virtiofsd_fuse.specs.Serving.{May}
 use Rattle.plain_machine.specs.declared.error.DeviceError.TheVariants as device
@@ -81,8 +80,7 @@ exchanges_keep :
 exchanges_keep may s after i q (Offers head (CannotFetch why)) calls x notice e = returns_keep s after i q [] _ s.options x notice e.returns
 exchanges_keep may s after i q (Offers head (IsRequest request room)) calls x notice e =
     returns_keep s after i q room _ e.given.options x notice e.returns
-exchanges_keep may s after i q taking.Idle calls x notice e = absurd e
-exchanges_keep may s after i q (Refuses why) calls x notice e = absurd e
+exchanges_keep may s after i q _ calls x notice e = absurd e
 
 refused_keeps : {F : Type 0} (s after : State F) (i : ℕ) (q : Queue) → after ≡ with_queue s i q → fixed_of s ≡ fixed_of after
 refused_keeps {F} s after i q is = sym (ap (λ (m : State F). fixed_of m) is)
@@ -91,16 +89,9 @@ acts_keep : {F : Type 0} (may : May F) (s after : State F) (i : ℕ) (q : Queue)
     Acts may s i q offered calls o after → fixed_of s ≡ fixed_of after
 acts_keep {F} may s after i q offered calls Idle t = sym (ap (λ (m : State F). fixed_of m) t.1.same)
 acts_keep {F} may s after i q offered calls (Refused (device.Queue stop.OutOfMemory)) t = sym (ap (λ (m : State F). fixed_of m) t.1.same)
-acts_keep may s after i q offered calls (Refused (device.Queue stop.Stopped)) t = refused_keeps s after i _ t.2
-acts_keep may s after i q offered calls (Refused (device.Queue stop.AvailIndexUnreachable)) t = refused_keeps s after i _ t.2
-acts_keep may s after i q offered calls (Refused (device.Queue stop.AvailTooFar)) t = refused_keeps s after i _ t.2
-acts_keep may s after i q offered calls (Refused (device.Queue stop.RingEntryUnreachable)) t = refused_keeps s after i _ t.2
-acts_keep may s after i q offered calls (Refused (device.Queue stop.HeadOutOfTable)) t = refused_keeps s after i _ t.2
-acts_keep may s after i q offered calls (Refused (device.Queue stop.UsedUnreachable)) t = refused_keeps s after i _ t.2
-acts_keep may s after i q offered calls (Refused (device.Queue stop.AvailFlagsUnreachable)) t = refused_keeps s after i _ t.2
-acts_keep may s after i q offered calls (Refused (device.Queue stop.DescriptorUnreachable)) t = refused_keeps s after i _ t.2
 acts_keep may s after i q offered calls (Refused device.NoSuchQueue) t = absurd t
 acts_keep may s after i q offered calls (Exchanged x notice) t = exchanges_keep may s after i q offered calls x notice t
+acts_keep may s after i q offered calls (Refused (device.Queue _)) t = refused_keeps s after i _ t.2
 
 of_queue_keeps : {F : Type 0} (may : May F) (s after : State F) (i : ℕ) (o : Option Queue) (calls : Calls) (outcome : step.StepEnd) →
     StepOf may s i o calls outcome after → fixed_of s ≡ fixed_of after
@@ -154,17 +145,7 @@ pub plays_keeps : {F : Type 0} (may : May F) (s after : State F) (command : Comm
 plays_keeps may s after (GuestWrite a bytes) outcome pages t = write_keeps s after a bytes t.1
 plays_keeps may s after (SetLayout layout) outcome pages t = layout_keeps s after layout t.1
 plays_keeps may s after (Kick i most) outcome pages t = kicked_keeps may s after i outcome pages t.1
-plays_keeps may s after (run.GuestRead a n) outcome pages t = absurd t
-plays_keeps may s after (run.NewBlock n) outcome pages t = absurd t
-plays_keeps may s after (run.InsertRegion base block) outcome pages t = absurd t
-plays_keeps may s after (run.RemoveRegion base size) outcome pages t = absurd t
-plays_keeps may s after (run.Map iova target n perm) outcome pages t = absurd t
-plays_keeps may s after (run.Unmap iova n) outcome pages t = absurd t
-plays_keeps may s after run.UnmapAll outcome pages t = absurd t
-plays_keeps may s after (run.SetIommu on) outcome pages t = absurd t
-plays_keeps may s after (run.ResetQueue queue size desc avail used) outcome pages t = absurd t
-plays_keeps may s after run.Image outcome pages t = absurd t
-plays_keeps may s after run.Harvest outcome pages t = absurd t
+plays_keeps may s after _ outcome pages t = absurd t
 
 -- ---- the queues so far
 

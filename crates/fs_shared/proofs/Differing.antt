@@ -92,15 +92,8 @@ layout_keeps {F} s after layout t =
 acts_refused : {F : Type 0} (may : May F) (s after : State F) (i : ℕ) (q : Queue) (offered : Offer) (calls : Calls) (e : DeviceError) →
     Acts may s i q offered calls (step.Refused e) after → after.memory ≡ s.memory
 acts_refused {F} may s after i q offered calls (device.Queue stop.OutOfMemory) t = ap (λ (m : State F). m.memory) t.1.same
-acts_refused {F} may s after i q offered calls (device.Queue stop.Stopped) t = ap (λ (m : State F). m.memory) t.2
-acts_refused {F} may s after i q offered calls (device.Queue stop.AvailIndexUnreachable) t = ap (λ (m : State F). m.memory) t.2
-acts_refused {F} may s after i q offered calls (device.Queue stop.AvailTooFar) t = ap (λ (m : State F). m.memory) t.2
-acts_refused {F} may s after i q offered calls (device.Queue stop.RingEntryUnreachable) t = ap (λ (m : State F). m.memory) t.2
-acts_refused {F} may s after i q offered calls (device.Queue stop.HeadOutOfTable) t = ap (λ (m : State F). m.memory) t.2
-acts_refused {F} may s after i q offered calls (device.Queue stop.UsedUnreachable) t = ap (λ (m : State F). m.memory) t.2
-acts_refused {F} may s after i q offered calls (device.Queue stop.AvailFlagsUnreachable) t = ap (λ (m : State F). m.memory) t.2
-acts_refused {F} may s after i q offered calls (device.Queue stop.DescriptorUnreachable) t = ap (λ (m : State F). m.memory) t.2
 acts_refused may s after i q offered calls device.NoSuchQueue t = absurd t
+acts_refused {F} may s after i q offered calls (device.Queue _) t = ap (λ (m : State F). m.memory) t.2
 
 step_refused : {F : Type 0} (may : May F) (s after : State F) (i : ℕ) (o : Option Queue) (calls : Calls) (e : DeviceError) →
     StepOf may s i o calls (step.Refused e) after → after.memory ≡ s.memory
@@ -149,17 +142,7 @@ plays_keep may s after (GuestWrite a bytes) outcome pages p t =
 plays_keep may s after (SetLayout layout) outcome pages p t =
     same_keeps pages p s.memory.host after.memory.host (layout_keeps s after layout t.1)
 plays_keep may s after (Kick i most) outcome pages p t = kick_keeps may s after i outcome pages p t.1
-plays_keep may s after (run.GuestRead a n) outcome pages p t = absurd t
-plays_keep may s after (run.NewBlock n) outcome pages p t = absurd t
-plays_keep may s after (run.InsertRegion base block) outcome pages p t = absurd t
-plays_keep may s after (run.RemoveRegion base size) outcome pages p t = absurd t
-plays_keep may s after (run.Map iova target n perm) outcome pages p t = absurd t
-plays_keep may s after (run.Unmap iova n) outcome pages p t = absurd t
-plays_keep may s after run.UnmapAll outcome pages p t = absurd t
-plays_keep may s after (run.SetIommu on) outcome pages p t = absurd t
-plays_keep may s after (run.ResetQueue queue size desc avail used) outcome pages p t = absurd t
-plays_keep may s after run.Image outcome pages p t = absurd t
-plays_keep may s after run.Harvest outcome pages p t = absurd t
+plays_keep may s after _ outcome pages p t = absurd t
 
 -- one after the other
 both_keep : (first rest : List ℕ) (p : Place) (before mid after : Host) → KeepsOr first p before mid → KeepsOr rest p mid after →

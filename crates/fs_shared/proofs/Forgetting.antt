@@ -57,16 +57,9 @@ acts_forget : {F : Type 0} (may : May F) (s after : State F) (i : ℕ) (q : Queu
     Acts may s i q offered calls o after → Acts Anything (forget s) i q offered calls o (forget after)
 acts_forget may s after i q offered calls Idle t = (t.0, same_forgets s after calls t.1)
 acts_forget may s after i q offered calls (Refused (device.Queue stop.OutOfMemory)) t = (t.0, same_forgets s after calls t.1)
-acts_forget may s after i q offered calls (Refused (device.Queue stop.Stopped)) t = refused_forgets s after _ _ _ t
-acts_forget may s after i q offered calls (Refused (device.Queue stop.AvailIndexUnreachable)) t = refused_forgets s after _ _ _ t
-acts_forget may s after i q offered calls (Refused (device.Queue stop.AvailTooFar)) t = refused_forgets s after _ _ _ t
-acts_forget may s after i q offered calls (Refused (device.Queue stop.RingEntryUnreachable)) t = refused_forgets s after _ _ _ t
-acts_forget may s after i q offered calls (Refused (device.Queue stop.HeadOutOfTable)) t = refused_forgets s after _ _ _ t
-acts_forget may s after i q offered calls (Refused (device.Queue stop.UsedUnreachable)) t = refused_forgets s after _ _ _ t
-acts_forget may s after i q offered calls (Refused (device.Queue stop.AvailFlagsUnreachable)) t = refused_forgets s after _ _ _ t
-acts_forget may s after i q offered calls (Refused (device.Queue stop.DescriptorUnreachable)) t = refused_forgets s after _ _ _ t
 acts_forget may s after i q offered calls (Refused device.NoSuchQueue) t = absurd t
 acts_forget may s after i q offered calls (Exchanged x notice) t = exchanges_forget may s after i q offered calls x notice t
+acts_forget may s after i q offered calls (Refused (device.Queue _)) t = refused_forgets s after _ _ _ t
 
 of_queue : {F : Type 0} (may : May F) (s after : State F) (i : ℕ) (o : Option Queue) (calls : Calls) (outcome : StepEnd) →
     StepOf may s i o calls outcome after → StepOf Anything (forget s) i o calls outcome (forget after)
@@ -137,14 +130,4 @@ pub plays_forgets : {F : Type 0} (may : May F) (s after : State F) (command : Co
 plays_forgets may s after (GuestWrite a bytes) outcome pages t = (t.0, decided_write s after a bytes t.1, t.2)
 plays_forgets may s after (SetLayout layout) outcome pages t = (t.0, decided_layout s after layout t.1, t.2)
 plays_forgets may s after (Kick i most) outcome pages t = (t.0, kicked_forgets may s after i outcome pages t.1)
-plays_forgets may s after (run.GuestRead a n) outcome pages t = absurd t
-plays_forgets may s after (run.NewBlock n) outcome pages t = absurd t
-plays_forgets may s after (run.InsertRegion base block) outcome pages t = absurd t
-plays_forgets may s after (run.RemoveRegion base size) outcome pages t = absurd t
-plays_forgets may s after (run.Map iova target n perm) outcome pages t = absurd t
-plays_forgets may s after (run.Unmap iova n) outcome pages t = absurd t
-plays_forgets may s after run.UnmapAll outcome pages t = absurd t
-plays_forgets may s after (run.SetIommu on) outcome pages t = absurd t
-plays_forgets may s after (run.ResetQueue queue size desc avail used) outcome pages t = absurd t
-plays_forgets may s after run.Image outcome pages t = absurd t
-plays_forgets may s after run.Harvest outcome pages t = absurd t
+plays_forgets may s after _ outcome pages t = absurd t

@@ -34,23 +34,10 @@ kicks_replay may before after i (Ok kicked.TheVariants.Idle) held does = stayed 
 kicks_replay may before after i (Err device.NoSuchQueue) held does = stayed before after held does.1
 kicks_replay may before after i (Err (device.Queue stop.Stopped)) held does = stayed before after held does.1
 kicks_replay may before after i (Err (device.Queue stop.OutOfMemory)) held does = stayed before after held does.1
-kicks_replay may before after i (Err (device.Queue stop.AvailIndexUnreachable)) held does = absurd does
-kicks_replay may before after i (Err (device.Queue stop.AvailTooFar)) held does = absurd does
-kicks_replay may before after i (Err (device.Queue stop.RingEntryUnreachable)) held does = absurd does
-kicks_replay may before after i (Err (device.Queue stop.HeadOutOfTable)) held does = absurd does
-kicks_replay may before after i (Err (device.Queue stop.UsedUnreachable)) held does = absurd does
-kicks_replay may before after i (Err (device.Queue stop.AvailFlagsUnreachable)) held does = absurd does
-kicks_replay may before after i (Err (device.Queue stop.DescriptorUnreachable)) held does = absurd does
+kicks_replay may before after i (Err (device.Queue _)) held does = absurd does
 
 pub acts_replay : {F : Type 0} (may : May F) (before after : Held F) (command : Command) (result : Result Receipt Refusal) →
     HoldsReplay before → JournalsOrRefuses may before command result after → HoldsReplay after
 acts_replay may before after command (Ok r) held does = journaled may before after command r held does
 acts_replay may before after command (Err why.OutOfMemory) held does = stayed before after held does.1
-acts_replay may before after command (Err why.NoPlace) held does = stayed before after held does.1
-acts_replay may before after command (Err why.EmptyBlock) held does = stayed before after held does.1
-acts_replay may before after command (Err why.UnknownBlock) held does = stayed before after held does.1
-acts_replay may before after command (Err why.BadRegion) held does = stayed before after held does.1
-acts_replay may before after command (Err why.Overlap) held does = stayed before after held does.1
-acts_replay may before after command (Err why.NoRegion) held does = stayed before after held does.1
-acts_replay may before after command (Err why.BadMapping) held does = stayed before after held does.1
-acts_replay may before after command (Err why.NoSuchQueue) held does = stayed before after held does.1
+acts_replay may before after command (Err _) held does = stayed before after held does.1

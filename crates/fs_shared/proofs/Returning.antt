@@ -1,5 +1,5 @@
 -- the places that a return writes
-use Rattle.std.proofs.Common.{◌≡◌, ◌+◌, ℕ, zero, suc, List, [], ◌∷◌, ◌++◌, length, map, take, ap, sym, refl, ◌∙◌, Option, Some, None, Ok}
+use Rattle.std.proofs.Common.{◌≡◌, ◌+◌, ℕ, zero, suc, List, [], ◌∷◌, ◌++◌, length, map, take, ap, sym, refl, ◌∙◌, Option, Some, Ok}
 use Rattle.std.proofs.Common.{Err, Result, append_assoc, arith}
 use Rattle.std.specs.Prelude.{option_and_then, option_map}
 use Rattle.std.specs.List.{filter_map, zip}
@@ -57,11 +57,10 @@ by_first : (f : ℕ → Option Place) (n a : ℕ) (as' : List ℕ) (ps : List Pl
     ((qs : List Place) → located f as' ≡ Some qs → filter_map f (take n as') ≡ take n qs) →
     (o : Option Place) → f a ≡ o → (l : Option (List Place)) → located f as' ≡ l →
     option_and_then (λ p. option_map (λ ps. p ∷ ps) l) o ≡ Some ps → filter_map f (take (suc n) (a ∷ as')) ≡ take (suc n) ps
-by_first f n a as' ps rest None here l there is = absurd (cc)
-by_first f n a as' ps rest (Some p) here None there is = absurd (cc)
 by_first f n a as' ps rest (Some p) here (Some qs) there is =
     let all : p ∷ qs ≡ ps = cc in
     rw (← all, here) (ap (λ (xs : List Place). p ∷ xs) (rest qs there))
+by_first f n a as' ps rest _ here _ there is = absurd (cc)
 
 located_first :
     (f : ℕ → Option Place) (n : ℕ) (as' : List ℕ) (ps : List Place) → located f as' ≡ Some ps → filter_map f (take n as') ≡ take n ps
@@ -77,11 +76,10 @@ by_whole : (f : ℕ → Option Place) (a : ℕ) (as' : List ℕ) (ps : List Plac
     ((qs : List Place) → located f as' ≡ Some qs → filter_map f as' ≡ qs) →
     (o : Option Place) → f a ≡ o → (l : Option (List Place)) → located f as' ≡ l →
     option_and_then (λ p. option_map (λ ps. p ∷ ps) l) o ≡ Some ps → filter_map f (a ∷ as') ≡ ps
-by_whole f a as' ps rest None here l there is = absurd (cc)
-by_whole f a as' ps rest (Some p) here None there is = absurd (cc)
 by_whole f a as' ps rest (Some p) here (Some qs) there is =
     let all : p ∷ qs ≡ ps = cc in
     rw (← all, here) (ap (λ (xs : List Place). p ∷ xs) (rest qs there))
+by_whole f a as' ps rest _ here _ there is = absurd (cc)
 
 -- the places of addresses that each have one
 pub whole : (f : ℕ → Option Place) (as' : List ℕ) (ps : List Place) → located f as' ≡ Some ps → filter_map f as' ≡ ps

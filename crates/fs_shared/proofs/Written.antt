@@ -19,33 +19,26 @@ abbrev byte_of : ℕ → Option Block → Option ℕ
 byte_of offset block = option_and_then (λ b. slice_get b.bytes offset) block
 
 set_other : (xs : List ℕ) (i j x : ℕ) → (i ≡ j → ⊥) → slice_get (slice_set xs i x) j ≡ slice_get xs j
-set_other [] i j x other = refl
 set_other (z ∷ xs) zero zero x other = absurd (other refl)
-set_other (z ∷ xs) zero (suc j) x other = refl
-set_other (z ∷ xs) (suc i) zero x other = refl
 set_other (z ∷ xs) (suc i) (suc j) x other = set_other xs i j x (λ e. other (ap suc e))
+set_other _ _ _ x other = refl
 
 set_length : (xs : List ℕ) (i x : ℕ) → length (slice_set xs i x) ≡ length xs
-set_length [] i x = refl
-set_length (z ∷ xs) zero x = refl
 set_length (z ∷ xs) (suc i) x = ap suc (set_length xs i x)
+set_length _ _ x = refl
 
 marks_keep : (l : List Block) (i j offset : ℕ) (f : List Bool → List Bool) →
     byte_of offset (slice_get (changed_at l i (λ (b : Block). record b { marks = f b.marks })) j) ≡ byte_of offset (slice_get l j)
-marks_keep [] i j offset f = refl
 marks_keep (b ∷ l) zero zero offset f = refl
-marks_keep (b ∷ l) zero (suc j) offset f = refl
-marks_keep (b ∷ l) (suc i) zero offset f = refl
 marks_keep (b ∷ l) (suc i) (suc j) offset f = marks_keep l i j offset f
+marks_keep _ _ _ offset f = refl
 
 one_keeps : (l : List Block) (i j at offset x : ℕ) → (i ≡ j → at ≡ offset → ⊥) →
     byte_of offset (slice_get (changed_at l i (λ (b : Block). record b { bytes = slice_set b.bytes at x })) j)
     ≡ byte_of offset (slice_get l j)
-one_keeps [] i j at offset x other = refl
 one_keeps (b ∷ l) zero zero at offset x other = set_other b.bytes at offset x (other refl)
-one_keeps (b ∷ l) zero (suc j) at offset x other = refl
-one_keeps (b ∷ l) (suc i) zero at offset x other = refl
 one_keeps (b ∷ l) (suc i) (suc j) at offset x other = one_keeps l i j at offset x (λ e. other (ap suc e))
+one_keeps _ _ _ at offset x other = refl
 
 mark_keeps : (io : Option IoAddress) (p : Place) (h : Host) (r : Place) → byte_at (with_mark_by io p h) r ≡ byte_at h r
 mark_keeps None p h r = marks_keep h.blocks p.block r.block r.offset _

@@ -24,19 +24,15 @@ Differ p q = p.block ≡ q.block → p.offset ≡ q.offset → ⊥
 -- changes of a list's elements that commute where they meet
 changed_comm : {X : Type 0} (l : List X) (i j : ℕ) (f g : X → X) → (i ≡ j → (x : X) → g (f x) ≡ f (g x)) →
     changed_at (changed_at l i f) j g ≡ changed_at (changed_at l j g) i f
-changed_comm [] i j f g h = refl
 changed_comm {X} (x ∷ l) zero zero f g h = ap (λ (y : X). y ∷ l) (h refl x)
-changed_comm (x ∷ l) zero (suc j) f g h = refl
-changed_comm (x ∷ l) (suc i) zero f g h = refl
 changed_comm {X} (x ∷ l) (suc i) (suc j) f g h = ap (λ (r : List X). x ∷ r) (changed_comm l i j f g (λ e. h (ap suc e)))
+changed_comm _ _ _ f g h = refl
 
 -- one value may be set at two places in either order, also if they are one
 set_twice : {X : Type 0} (l : List X) (i j : ℕ) (a : X) → set (set l i a) j a ≡ set (set l j a) i a
-set_twice [] i j a = refl
 set_twice (x ∷ l) zero zero a = refl
-set_twice (x ∷ l) zero (suc j) a = refl
-set_twice (x ∷ l) (suc i) zero a = refl
 set_twice {X} (x ∷ l) (suc i) (suc j) a = ap (λ (r : List X). x ∷ r) (set_twice l i j a)
+set_twice _ _ _ a = refl
 
 mark_twice : (c d : Bool) (l : List Bool) (i j : ℕ) →
     (let m : List Bool = if c then set l i true else l in if d then set m j true else m)
@@ -59,9 +55,8 @@ abbrev host_with : Host → List Block → List (List Bool) → Host
 host_with h blocks sets = record h { blocks = blocks; io_marks = sets }
 
 twice : {X : Type 0} (l : List X) (i : ℕ) (f g : X → X) → changed_at (changed_at l i f) i g ≡ changed_at l i (λ x. g (f x))
-twice [] i f g = refl
-twice (x ∷ l) zero f g = refl
 twice {X} (x ∷ l) (suc i) f g = ap (λ (r : List X). x ∷ r) (twice l i f g)
+twice _ _ f g = refl
 
 put_is : (h : Host) (p : Place) (x : ℕ) (io : Option IoAddress) → p.io ≡ io →
     put_byte h p x ≡ host_with h (changed_at h.blocks p.block (in_block p x)) (in_sets p.io h.io_marks)
@@ -101,19 +96,17 @@ put_comm h p q x y apart =
 put_past : (qs : List Place) (ys : List ℕ) (h : Host) (p : Place) (x : ℕ) → IsApart p qs →
     put_all (put_byte h p x) (zip qs ys) ≡ put_byte (put_all h (zip qs ys)) p x
 unfolding put_all
-put_past [] ys h p x apart = refl
-put_past (q ∷ qs) [] h p x apart = refl
 put_past (q ∷ qs) (y ∷ ys) h p x apart =
     ap (λ (k : Host). put_all k (zip qs ys)) (put_comm h p q x y apart.0) ∙ put_past qs ys (put_byte h q y) p x apart.1
+put_past _ _ h p x apart = refl
 
 -- many past many
 pub put_all_comm : (ps qs : List Place) (xs ys : List ℕ) (h : Host) → Apart ps qs →
     put_all (put_all h (zip ps xs)) (zip qs ys) ≡ put_all (put_all h (zip qs ys)) (zip ps xs)
 unfolding put_all
-put_all_comm [] qs xs ys h apart = refl
-put_all_comm (p ∷ ps) qs [] ys h apart = refl
 put_all_comm (p ∷ ps) qs (x ∷ xs) ys h apart =
     put_all_comm ps qs xs ys (put_byte h p x) apart.1 ∙ ap (λ (k : Host). put_all k (zip ps xs)) (put_past qs ys h p x apart.0)
+put_all_comm _ qs _ ys h apart = refl
 
 -- the front of what is stored may come last
 pub front_last : (h k : Host) (ps : List Place) (front more : List ℕ) → length front ≤ length ps →

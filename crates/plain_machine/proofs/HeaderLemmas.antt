@@ -24,7 +24,7 @@ use Rattle.server_replies.specs.WholeReplies.{reply_bytes, error_bytes, data_rep
 use Rattle.server_replies.specs.WholeReplies.{started_bytes}
 use Rattle.server_replies.proofs.ReplyLemmas.{length_reply, length_error}
 use Rattle.virtiofsd_fuse.specs.Grammar as grammar
-use Rattle.virtiofsd_fuse.specs.Grammar.{Meaning, IsFault, Replies, IsSilent, Asks, FileCommand, One, Starts, Lists, Given, given, one, row}
+use Rattle.virtiofsd_fuse.specs.Grammar.{Meaning, Replies, Asks, FileCommand, One, Starts, Lists, Given, given, one, row}
 use Rattle.virtiofsd_fuse.specs.Grammar.{row_of, refused, ended, meant, meaning, with_header}
 use Rattle.virtiofsd_fuse.specs.Listings as listings
 use Rattle.virtiofsd_fuse.specs.Listings.{ListRequest, list_entries}
@@ -54,34 +54,13 @@ unless_silent false unique body = reply_headed unique body
 
 reported_headed : (silent : Bool) (unique : ℕ) (a : FileAnswer) → IsHeaded (reported_bytes silent unique a)
 reported_headed silent unique (call.Failed errno) = error_headed unique errno
-reported_headed silent unique call.Done = unless_silent silent unique _
-reported_headed silent unique (call.HasEntry e) = unless_silent silent unique _
-reported_headed silent unique (call.HasAttr attr timeout) = unless_silent silent unique _
-reported_headed silent unique (call.Opened handle options) = unless_silent silent unique _
-reported_headed silent unique (call.Created e handle options) = unless_silent silent unique _
-reported_headed silent unique (call.Bytes bytes) = unless_silent silent unique _
-reported_headed silent unique (call.Count n) = unless_silent silent unique _
-reported_headed silent unique (call.Stats st) = unless_silent silent unique _
-reported_headed silent unique (call.Wrote n) = unless_silent silent unique _
-reported_headed silent unique (call.Offset n) = unless_silent silent unique _
-reported_headed silent unique (call.Entries ds) = unless_silent silent unique _
-reported_headed silent unique (call.Wants options) = unless_silent silent unique _
+reported_headed silent unique _ = unless_silent silent unique _
 
 start_headed : (page_size unique capable readahead : ℕ) (a : FileAnswer) → IsHeaded (start_answered page_size unique capable readahead a)
 start_headed page_size unique capable readahead (call.Wants wanted) =
     reply_headed unique (started_bytes page_size readahead (agreed capable wanted))
 start_headed page_size unique capable readahead (call.Failed errno) = error_headed unique errno
-start_headed page_size unique capable readahead call.Done = none_headed
-start_headed page_size unique capable readahead (call.HasEntry e) = none_headed
-start_headed page_size unique capable readahead (call.HasAttr attr timeout) = none_headed
-start_headed page_size unique capable readahead (call.Opened handle options) = none_headed
-start_headed page_size unique capable readahead (call.Created e handle options) = none_headed
-start_headed page_size unique capable readahead (call.Bytes bytes) = none_headed
-start_headed page_size unique capable readahead (call.Count n) = none_headed
-start_headed page_size unique capable readahead (call.Stats st) = none_headed
-start_headed page_size unique capable readahead (call.Wrote n) = none_headed
-start_headed page_size unique capable readahead (call.Offset n) = none_headed
-start_headed page_size unique capable readahead (call.Entries ds) = none_headed
+start_headed page_size unique capable readahead _ = none_headed
 
 data_headed : (unique : ℕ) (r : Result ℕ ℕ) (bytes : List ℕ) → IsHeaded (data_reply unique r bytes)
 data_headed unique (Ok n) bytes = reply_headed unique bytes
@@ -91,10 +70,8 @@ data_headed unique (Err errno) bytes = error_headed unique errno
 
 -- a reply that asks no file system begins with its header
 abbrev pub RepliesHeaded : Meaning → Type 0
-RepliesHeaded (IsFault e) = Unit {0}
 RepliesHeaded (Replies bytes) = IsHeaded bytes
-RepliesHeaded IsSilent = Unit {0}
-RepliesHeaded (Asks command) = Unit {0}
+RepliesHeaded _ = Unit {0}
 
 -- a reply begins with its header, and has room
 abbrev IsReported : (room : ℕ) → List ℕ → Type 0
@@ -129,17 +106,7 @@ list_reported s unique l (call.Entries ds) answers =
     (data_headed unique (listing_answer (length w.bytes) l.with_nodes w.error) w.bytes)
 list_reported s unique l (call.Failed errno) answers =
     replied_reported s.room _ s.options (error_bytes unique errno) (error_headed unique errno)
-list_reported s unique l call.Done answers = none_reported s.room
-list_reported s unique l (call.HasEntry e) answers = none_reported s.room
-list_reported s unique l (call.HasAttr attr timeout) answers = none_reported s.room
-list_reported s unique l (call.Opened handle options) answers = none_reported s.room
-list_reported s unique l (call.Created e handle options) answers = none_reported s.room
-list_reported s unique l (call.Bytes bytes) answers = none_reported s.room
-list_reported s unique l (call.Count n) answers = none_reported s.room
-list_reported s unique l (call.Stats st) answers = none_reported s.room
-list_reported s unique l (call.Wrote n) answers = none_reported s.room
-list_reported s unique l (call.Offset n) answers = none_reported s.room
-list_reported s unique l (call.Wants options) answers = none_reported s.room
+list_reported s unique l _ answers = none_reported s.room
 
 command_reported : (s : Setting) (command : FileCommand) (answers : List FileAnswer) → IsReported s.room (commanded s command answers).reply
 command_reported s (One unique c) [] = none_reported s.room
@@ -154,10 +121,9 @@ command_reported s (Lists unique l) (a ∷ answers) = list_reported s unique l a
 
 -- what is served begins with its header, and has room
 served_reported : (s : Setting) (m : Meaning) (answers : List FileAnswer) → RepliesHeaded m → IsReported s.room (served s m answers).reply
-served_reported s (IsFault e) answers h = none_reported s.room
 served_reported s (Replies bytes) answers h = replied_reported s.room [] s.options bytes h
-served_reported s IsSilent answers h = none_reported s.room
 served_reported s (Asks command) answers h = command_reported s command answers
+served_reported s _ answers h = none_reported s.room
 
 -- ---- what a request means
 
@@ -262,11 +228,9 @@ module _ (g : Given) where
   row_headed op.RemoveMapping bytes = unserved
   row_headed op.Getattr bytes = record_ends inputs.getattr_in request.getattr_call bytes
   row_headed op.Setattr bytes = record_ends inputs.setattr_in request.setattr_call bytes
-  row_headed op.Readlink bytes = tt
   row_headed op.Unlink bytes = name_ends request.unlink_call bytes
   row_headed op.Rmdir bytes = name_ends request.rmdir_call bytes
   row_headed op.Open bytes = record_ends inputs.open_in request.open_call bytes
-  row_headed op.Statfs bytes = tt
   row_headed op.Release bytes = record_ends inputs.release_in request.release_call bytes
   row_headed op.Fsync bytes = record_ends inputs.fsync_in request.fsync_call bytes
   row_headed op.Removexattr bytes = name_ends request.removexattr_call bytes
@@ -274,21 +238,10 @@ module _ (g : Given) where
   row_headed op.Opendir bytes = record_ends inputs.open_in request.opendir_call bytes
   row_headed op.Releasedir bytes = record_ends inputs.release_in request.releasedir_call bytes
   row_headed op.Fsyncdir bytes = record_ends inputs.fsync_in request.fsyncdir_call bytes
-  row_headed op.Getlk bytes = tt
-  row_headed op.Setlk bytes = tt
-  row_headed op.Setlkw bytes = tt
   row_headed op.Access bytes = record_ends inputs.access_in request.access_call bytes
-  row_headed op.Interrupt bytes = tt
-  row_headed op.Bmap bytes = tt
-  row_headed op.Destroy bytes = tt
-  row_headed op.Ioctl bytes = tt
-  row_headed op.Poll bytes = tt
-  row_headed op.NotifyReply bytes = tt
   row_headed op.Fallocate bytes = record_ends inputs.fallocate_in request.fallocate_call bytes
   row_headed op.Lseek bytes = record_ends inputs.lseek_in request.lseek_call bytes
   row_headed op.CopyFileRange bytes = record_ends inputs.copyfilerange_in request.copy_file_range_call bytes
-  row_headed op.Syncfs bytes = tt
-  row_headed op.TmpFile bytes = tt
   row_headed op.Setxattr bytes =
       bytes_ends (λ g. fronts.setxattr_front g.options g.header.len) (λ g r. name_and_value r.size) request.setxattr_call bytes
   row_headed op.Getxattr bytes = bytes_ends (λ g. fronts.with_bytes inputs.getxattr_in 8 g.header.len)
@@ -306,6 +259,7 @@ module _ (g : Given) where
       bytes_ends (λ g. fronts.with_bytes inputs.rename_in 8 g.header.len) (λ g r. two_names) request.rename_call bytes
   row_headed op.Rename2 bytes =
       bytes_ends (λ g. fronts.with_bytes inputs.rename2_in 16 g.header.len) (λ g r. two_names) request.rename2_call bytes
+  row_headed _ bytes = tt
 
   by_opcode : (b : Bool) (o : Option Opcode) (bytes : List ℕ) → Ends ((needs b (Sends grammar.ENOMEM) >> row_of g o) bytes)
   by_opcode false o bytes = refused_headed g.header.unique (Sends grammar.ENOMEM)

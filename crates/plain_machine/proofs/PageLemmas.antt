@@ -22,28 +22,22 @@ use Rattle.plain_machine.proofs.UsedLemmas.{exchange_returns, step_offers}
 -- ---- lists
 
 changed_here : {X : Type 0} (l : List X) (i : ℕ) (f : X → X) → slice_get (changed_at l i f) i ≡ option_map f (slice_get l i)
-changed_here [] i f = refl
-changed_here (x ∷ l) zero f = refl
 changed_here (x ∷ l) (suc i) f = changed_here l i f
+changed_here _ _ f = refl
 
 changed_there : {X : Type 0} (l : List X) (i j : ℕ) (f : X → X) → i ≢ j → slice_get (changed_at l i f) j ≡ slice_get l j
-changed_there [] i j f apart = refl
 changed_there (x ∷ l) zero zero f apart = absurd (apart refl)
-changed_there (x ∷ l) zero (suc j) f apart = refl
-changed_there (x ∷ l) (suc i) zero f apart = refl
 changed_there (x ∷ l) (suc i) (suc j) f apart = changed_there l i j f (λ e. apart (ap suc e))
+changed_there _ _ _ f apart = refl
 
 set_here : (l : List Bool) (i : ℕ) → slice_get (slice_set l i true) i ≡ option_map (λ was. true) (slice_get l i)
-set_here [] i = refl
-set_here (x ∷ l) zero = refl
 set_here (x ∷ l) (suc i) = set_here l i
+set_here _ _ = refl
 
 set_there : (l : List Bool) (i j : ℕ) → i ≢ j → slice_get (slice_set l i true) j ≡ slice_get l j
-set_there [] i j apart = refl
 set_there (x ∷ l) zero zero apart = absurd (apart refl)
-set_there (x ∷ l) zero (suc j) apart = refl
-set_there (x ∷ l) (suc i) zero apart = refl
 set_there (x ∷ l) (suc i) (suc j) apart = set_there l i j (λ e. apart (ap suc e))
+set_there _ _ _ apart = refl
 
 -- ---- a mark, as it was or set
 

@@ -13,8 +13,7 @@ use Rattle.vm_memory.proofs.Places.{stored_all-append}
 use Rattle.fs_queue.specs.declared.fault.QueueError.{QueueError}
 use Rattle.fs_queue.specs.declared.fault.QueueError.TheVariants as stop
 use Rattle.fs_queue.specs.Queue.{Queue, element_at, index_at}
-use Rattle.fs_queue.specs.Taking.{IsRequest, CannotFetch, Offer, Refuses, Offers, offer, may_lack_memory, after_refusal}
-use Rattle.fs_queue.specs.Taking as taking
+use Rattle.fs_queue.specs.Taking.{IsRequest, CannotFetch, Offer, Offers, offer, may_lack_memory, after_refusal}
 use Rattle.fs_queue.specs.OfferLoads.{HasLoads}
 use Rattle.fs_queue.proofs.OfferByLemmas.{offer_is_still, offer_finds}
 use Rattle.fs_queue.proofs.ReadLemmas.{length-bytes}
@@ -51,10 +50,9 @@ zip_none (a ∷ as') = refl
 
 -- two lists joined are those of their fronts and those of what is behind
 zip_cut : (n : ℕ) (as' : List ℕ) (xs : List ℕ) → zip as' xs ≡ zip (take n as') (take n xs) ++ zip (drop n as') (drop n xs)
-zip_cut zero as' xs = refl
-zip_cut (suc n) [] xs = refl
 zip_cut (suc n) (a ∷ as') [] = sym (zip_none (drop n as'))
 zip_cut (suc n) (a ∷ as') (x ∷ xs) = ap (λ (l : List (ℕ × ℕ)). (a, x) ∷ l) (zip_cut n as' xs)
+zip_cut _ _ xs = refl
 
 -- a reply's stores write it, its front last
 pub reply_writes : (room reply : List ℕ) (n : ℕ) →
@@ -197,8 +195,7 @@ module _ {F : Type 0} (may : May F) (s : State F) (i : ℕ) (e : Effects) (after
           returns = gone_back room (served_exchange head request made.given) made.given.options x notice (last head request room refl)
               made.returns;
         }
-    exchanges_still taking.Idle calls x notice last made = absurd made
-    exchanges_still (Refuses error) calls x notice last made = absurd made
+    exchanges_still _ calls x notice last made = absurd made
 
     acts_still : (o : Offer) (calls : Calls) (outcome : StepEnd) →
         ((head : ℕ) (request room : List ℕ) → o ≡ Offers head (IsRequest request room) → MayStoreLast s.memory room e.last) →
@@ -321,8 +318,7 @@ module _ {F : Type 0} (may : May F) (s : State F) (i : ℕ) (q : Queue) (there :
         serves = made.serves;
         returns = returns_by room expected made.given.options x notice after made.returns;
       }))
-  exchange_by h taking.Idle is calls x notice after made = absurd made
-  exchange_by h (Refuses error) is calls x notice after made = absurd made
+  exchange_by h _ is calls x notice after made = absurd made
 
   unchanged_by : (calls : Calls) (after : State F) → Unchanged s calls after → Unchanged s calls (at after s.memory)
   unchanged_by calls after same = record { same = ap (λ (t : State F). at t s.memory) same.same; no_call = same.no_call }
@@ -402,13 +398,12 @@ step_is_step_by may s i calls outcome after made = by_found may s i calls outcom
 -- what is zipped with some addresses goes there
 zipped_there : (as' xs target : List ℕ) → ((a : ℕ) → Contains as' a → Contains target a) →
     AllByRecursion (λ (w : ℕ × ℕ). Contains target w.0) (zip as' xs)
-zipped_there [] xs target there = tt
-zipped_there (a ∷ as') [] target there = tt
 zipped_there (a ∷ as') (x ∷ xs) target there = (
   there a (Contains-append_left (a ∷ []) as' a (0, omega arith, refl)),
   zipped_there as' xs target
       (λ b in_rest. there b (Contains-append_right (a ∷ []) as' b in_rest)),
 )
+zipped_there _ _ target there = tt
 
 both_there : (target : List ℕ) (ws vs : List (ℕ × ℕ)) → AllByRecursion (λ (w : ℕ × ℕ). Contains target w.0) ws →
     AllByRecursion (λ (w : ℕ × ℕ). Contains target w.0) vs →
@@ -479,22 +474,14 @@ module _ {F : Type 0} (may : May F) (s : State F) (i : ℕ) (q : Queue) (e : Eff
       (flat_map writes_of l))
       (sym (among _ made.returns.flags made.returns.acts))
       (return_there q head room made.given.reply e.last)
-  exchange_there taking.Idle calls x notice made = absurd made
-  exchange_there (Refuses error) calls x notice made = absurd made
+  exchange_there _ calls x notice made = absurd made
 
   acts_there : (o : Offer) (calls : Calls) (outcome : StepEnd) → ActsBy may s i q o calls outcome e after → There o
   acts_there o calls Idle made = none_there (return_addresses q o) e.acts made.2
   acts_there o calls (Refused (device.Queue stop.OutOfMemory)) made = none_there (return_addresses q o) e.acts made.2
-  acts_there o calls (Refused (device.Queue stop.Stopped)) made = none_there (return_addresses q o) e.acts made.3
-  acts_there o calls (Refused (device.Queue stop.AvailIndexUnreachable)) made = none_there (return_addresses q o) e.acts made.3
-  acts_there o calls (Refused (device.Queue stop.AvailTooFar)) made = none_there (return_addresses q o) e.acts made.3
-  acts_there o calls (Refused (device.Queue stop.RingEntryUnreachable)) made = none_there (return_addresses q o) e.acts made.3
-  acts_there o calls (Refused (device.Queue stop.HeadOutOfTable)) made = none_there (return_addresses q o) e.acts made.3
-  acts_there o calls (Refused (device.Queue stop.UsedUnreachable)) made = none_there (return_addresses q o) e.acts made.3
-  acts_there o calls (Refused (device.Queue stop.AvailFlagsUnreachable)) made = none_there (return_addresses q o) e.acts made.3
-  acts_there o calls (Refused (device.Queue stop.DescriptorUnreachable)) made = none_there (return_addresses q o) e.acts made.3
   acts_there o calls (Refused device.NoSuchQueue) made = absurd made
   acts_there o calls (Exchanged x notice) made = exchange_there o calls x notice made
+  acts_there o calls (Refused (device.Queue _)) made = none_there (return_addresses q o) e.acts made.3
 
 pub stores_only_there : {F : Type 0} (may : May F) → StoresOnlyThere may
 stores_only_there may s i l calls outcome e after q o there is made =

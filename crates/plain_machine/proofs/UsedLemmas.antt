@@ -4,8 +4,7 @@ use Rattle.std.proofs.Common.{append_assoc}
 use Rattle.std.specs.Prelude.{slice_get, zip}
 use Rattle.vm_memory.specs.Memory.{Memory, stored_all}
 use Rattle.fs_queue.specs.Queue.{Queue}
-use Rattle.fs_queue.specs.Taking.{RequestAndRoom, IsRequest, CannotFetch, Offer, Refuses, Offers, offer, room_of}
-use Rattle.fs_queue.specs.Taking as taking
+use Rattle.fs_queue.specs.Taking.{RequestAndRoom, IsRequest, CannotFetch, Offer, Offers, offer, room_of}
 use Rattle.fs_queue.specs.Returning.{returned, writes}
 use Rattle.virtiofsd_fuse.specs.Serving.{May, setting}
 use Rattle.plain_machine.specs.Step.{State, Exchange, Exchanged, Calls, Exchanges, StepOf, Step, answers_alone}
@@ -21,9 +20,8 @@ zip_count (x ∷ xs) [] h = refl
 zip_count (x ∷ xs) (y ∷ ys) h = ap suc (zip_count xs ys (omega (arith, h)))
 
 zip_nothing : (xs ys : List ℕ) → ys ≡ [] → zip xs ys ≡ []
-zip_nothing [] ys e = refl
-zip_nothing (x ∷ xs) [] e = refl
 zip_nothing (x ∷ xs) (y ∷ ys) e = absurd (cc)
+zip_nothing _ _ e = refl
 
 no_byte : (ys : List ℕ) → length ys ≡ 0 → ys ≡ []
 no_byte [] e = refl
@@ -70,12 +68,11 @@ by_head may s i q head fetched calls x notice after there is same r = (
 by_offer : {F : Type 0} (may : May F) (s : State F) (i : ℕ) (q : Queue) (o : Offer) (calls : Calls) (x : Exchange) (notice : Bool)
     (after : State F) → slice_get s.queues i ≡ Some q →
     offer s.memory s.limit q ≡ o → Exchanges may s i q o calls x notice after → OffersAndExchanges may s i calls x notice after
-by_offer may s i q taking.Idle calls x notice after there is r = absurd r
-by_offer may s i q (Refuses e) calls x notice after there is r = absurd r
 by_offer may s i q (Offers head (CannotFetch why)) calls x notice after there is r =
     by_head may s i q head (CannotFetch why) calls x notice after there is (ap (λ (e : Exchange). e.head) r.returns.exchange) r
 by_offer may s i q (Offers head (IsRequest request room)) calls x notice after there is r =
     by_head may s i q head (IsRequest request room) calls x notice after there is (ap (λ (e : Exchange). e.head) r.returns.exchange) r
+by_offer may s i q _ calls x notice after there is r = absurd r
 
 by_queue : {F : Type 0} (may : May F) (s : State F) (i : ℕ) (o : Option Queue) (calls : Calls) (x : Exchange) (notice : Bool)
     (after : State F) → slice_get s.queues i ≡ o →

@@ -297,17 +297,12 @@ block_fits_in layout base block (Some b) =
 -- behind it. A removal allocates only if the addresses before and behind its end are mapped in one
 -- piece
 abbrev pub command_takes_memory : {F : Type 0} → State F → Command → Bool
-command_takes_memory s (GuestWrite a bs) = false
 command_takes_memory s (Map iova target n perm) =
     (nat_lt 0 n && (ends_fit iova n && ends_fit target n))
     && begins_anew_about (table_of s.memory) (mapped iova target n perm (table_of s.memory)) iova (iova + n)
 command_takes_memory s (Unmap iova n) =
     (nat_lt 0 n && ends_fit iova n) && carries_on_at (table_of s.memory) (iova + n)
-command_takes_memory s UnmapAll = false
-command_takes_memory s (SetIommu on) = false
 command_takes_memory s (Kick queue most) = kick_takes_memory s queue most
-command_takes_memory s (ResetQueue queue size desc avail used) = false
-command_takes_memory s (SetLayout layout) = false
 command_takes_memory s (GuestRead a n) = nat_lt 0 n && reach (physical s.memory) Read a n
 command_takes_memory s (NewBlock n) = nat_lt 0 n
 command_takes_memory s (InsertRegion base block) =
@@ -315,6 +310,7 @@ command_takes_memory s (InsertRegion base block) =
 command_takes_memory s (RemoveRegion base size) = list_any (is_region base size) s.memory.layout
 command_takes_memory s Image = true
 command_takes_memory s Harvest = true
+command_takes_memory s _ = false
 
 -- a command has this effect, and there is no exchange behind its answer
 abbrev pub HasEffect : {F : Type 0} → State F → Command → Turns → Answer → State F → Type 0
