@@ -38,22 +38,9 @@ proceeds_at old new q q' bytes (outcomes.On reported) at.Free is proceeds =
 proceeds_at old new q q' bytes (outcomes.On reported) (at.Walking course pop_id walk) is proceeds =
     gone_keeps old new q q' (whole old bytes) reported course pop_id walk q.stopped
     (subst (λ (st : state.ChainState). WalksFrom st (whole old bytes) old new q q' reported) is proceeds.4)
-proceeds_at old new q q' bytes outcomes.Part at.Free is proceeds = absurd (no_part old bytes proceeds.1 (ap load_len is))
-proceeds_at old new q q' bytes outcomes.Part (at.Taken o) is proceeds = absurd (no_part old bytes proceeds.1 (ap load_len is))
-proceeds_at old new q q' bytes (outcomes.On reported) (at.Taken o) is proceeds =
+proceeds_at old new q q' bytes (outcomes.On reported) _ is proceeds =
     absurd (subst (λ (st : state.ChainState). WalksFrom st (whole old bytes) old new q q' reported) is proceeds.4)
-proceeds_at old new q q' bytes outcomes.Part (at.Waits o w) is proceeds = absurd (no_part old bytes proceeds.1 (ap load_len is))
-proceeds_at old new q q' bytes (outcomes.On reported) (at.Waits o w) is proceeds =
-    absurd (subst (λ (st : state.ChainState). WalksFrom st (whole old bytes) old new q q' reported) is proceeds.4)
-proceeds_at old new q q' bytes outcomes.Part (at.Lists o l) is proceeds = absurd (no_part old bytes proceeds.1 (ap load_len is))
-proceeds_at old new q q' bytes (outcomes.On reported) (at.Lists o l) is proceeds =
-    absurd (subst (λ (st : state.ChainState). WalksFrom st (whole old bytes) old new q q' reported) is proceeds.4)
-proceeds_at old new q q' bytes outcomes.Part (at.HasReply o preserved) is proceeds = absurd (no_part old bytes proceeds.1 (ap load_len is))
-proceeds_at old new q q' bytes (outcomes.On reported) (at.HasReply o preserved) is proceeds =
-    absurd (subst (λ (st : state.ChainState). WalksFrom st (whole old bytes) old new q q' reported) is proceeds.4)
-proceeds_at old new q q' bytes outcomes.Part (at.Pushing o) is proceeds = absurd (no_part old bytes proceeds.1 (ap load_len is))
-proceeds_at old new q q' bytes (outcomes.On reported) (at.Pushing o) is proceeds =
-    absurd (subst (λ (st : state.ChainState). WalksFrom st (whole old bytes) old new q q' reported) is proceeds.4)
+proceeds_at old new q q' bytes outcomes.Part _ is proceeds = absurd (no_part old bytes proceeds.1 (ap load_len is))
 
 two_pops : (one two three : ChainHandle) (q q' q'' : QueueState) → Popping one two q q' →
     Popping two three q' q'' → Popping one three q q''
@@ -90,12 +77,7 @@ ahead_drives page_size old new q q' ahead bytes reported free same pop ws k ther
 
 may_begin : (st : state.ChainState) (q : QueueState) → ahead_error st q ≡ None → st ≡ at.Free
 may_begin at.Free q is = refl
-may_begin (at.Walking course pop_id walk) q is = absurd (no_error WrongOrder is)
-may_begin (at.Taken out) q is = absurd (no_error WrongOrder is)
-may_begin (at.Waits out w) q is = absurd (no_error WrongOrder is)
-may_begin (at.Lists out l) q is = absurd (no_error WrongOrder is)
-may_begin (at.HasReply out preserved) q is = absurd (no_error WrongOrder is)
-may_begin (at.Pushing out) q is = absurd (no_error WrongOrder is)
+may_begin _ q is = absurd (no_error WrongOrder is)
 
 pub ahead_result : (old new : ChainHandle) (q q' : QueueState) (ahead : Bor (List LoadAhead))
     (bytes : Bor (List ℕ)) (result : Result walked.PopOutcome ChainError)

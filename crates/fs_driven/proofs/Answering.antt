@@ -16,9 +16,9 @@ use Rattle.server_phases.specs.Answering.{ReportsBytes, forget_calls}
 use Rattle.fuse_fs.specs.Calls.{Done, FileAnswer, FileCall, Forget}
 use Rattle.server_phases.specs.declared.session.Session.{Session}
 use Rattle.live_machine.specs.Several.{LiveQueue}
-use Rattle.live_machine.specs.Live.{Abandoned, Asked, Fetched, InFlightChain}
-use Rattle.live_machine.specs.Live.{LiveEvent, LiveRun, Own}
-use Rattle.live_machine.specs.Live.{Phase, PoppedFaulty}
+use Rattle.live_machine.specs.Live.{Asked, InFlightChain}
+use Rattle.live_machine.specs.Live.{LiveEvent, LiveRun}
+use Rattle.live_machine.specs.Live.{Phase}
 use Rattle.live_machine.specs.Live.{ReceivesAnswer, after_answer}
 use Rattle.live_machine.specs.Live.{asked_chain}
 use Rattle.live_machine.specs.Live.{Happens, room_of, serving}
@@ -55,25 +55,12 @@ waits_asked : (page_size : ℕ) (c : InFlightChain) (p : Phase) (st : state.Chai
     IsHeldIn page_size c p st session → Asking c p
 waits_asked page_size c (Asked request options calls) (at.Waits out w) session is held =
     (request, options, ap (λ (l : Calls). Asked request options l) held.1)
-waits_asked page_size c Fetched (at.Waits out w) session is held = absurd held
-waits_asked page_size c (PoppedFaulty why) (at.Waits out w) session is held = absurd held
-waits_asked page_size c (Own request reply) (at.Waits out w) session is held = absurd held
-waits_asked page_size c (Abandoned fault) (at.Waits out w) session is held = absurd held
-waits_asked page_size c p at.Free session is held = absurd is
-waits_asked page_size c p (at.Walking course pop_id walk) session is held = absurd is
-waits_asked page_size c p (at.Taken out) session is held = absurd is
-waits_asked page_size c p (at.Lists out l) session is held = absurd is
-waits_asked page_size c p (at.HasReply out preserved) session is held = absurd is
-waits_asked page_size c p (at.Pushing out) session is held = absurd is
+waits_asked page_size c _ (at.Waits out w) session is held = absurd held
+waits_asked page_size c p _ session is held = absurd is
 
 waits_out : (st : state.ChainState) → IsWaiting st → is_out st ≡ true
 waits_out (at.Waits out w) is = refl
-waits_out at.Free is = absurd is
-waits_out (at.Walking course pop_id walk) is = absurd is
-waits_out (at.Taken out) is = absurd is
-waits_out (at.Lists out l) is = absurd is
-waits_out (at.HasReply out preserved) is = absurd is
-waits_out (at.Pushing out) is = absurd is
+waits_out _ is = absurd is
 
 -- T tells of the answer's events
 abbrev AnsweredReports : QueueState → List ChainHandle → Option Begun → List LiveEvent →
@@ -166,17 +153,7 @@ answered_by s i page_size k q ws ob oh pops push old new c request options call 
 -- the data of an answer
 data_reported : (a : made_answer.FileAnswer) (u : Unseen) → ReportsBytes (data_of a u) a
 data_reported (value.Bytes len) u = sym (length_exactly len u.bytes)
-data_reported (value.Failed errno) u = refl
-data_reported value.Done u = refl
-data_reported (value.HasEntry entry) u = refl
-data_reported (value.HasAttr attr timeout) u = refl
-data_reported (value.Opened handle options) u = refl
-data_reported (value.Created entry handle options) u = refl
-data_reported (value.Count n) u = refl
-data_reported (value.Stats stats) u = refl
-data_reported (value.Wrote n) u = refl
-data_reported (value.Offset offset) u = refl
-data_reported (value.Wants options) u = refl
+data_reported _ u = refl
 
 abbrev GivenSo : (old new : ChainHandle) → made_answer.FileAnswer → Replied → Type 0
 GivenSo old new a reported =

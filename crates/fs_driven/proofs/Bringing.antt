@@ -99,14 +99,7 @@ gathers_on (at.Lists out l) new mine serial list list' e outcome reported adds =
   ap is_listing adds.1.1,
   ap (λ (s : state.ChainState). serial_error s mine serial) adds.1.1,
 )
-gathers_on (at.Waits out w) new mine serial list list' e outcome reported adds = absurd (not_in_error reported _ adds.0)
-gathers_on at.Free new mine serial list list' e outcome reported adds = absurd (not_in_error reported _ adds.0)
-gathers_on (at.Walking course pop_id walk) new mine serial list list' e outcome reported adds =
-    absurd (not_in_error reported _ adds.0)
-gathers_on (at.Taken out) new mine serial list list' e outcome reported adds = absurd (not_in_error reported _ adds.0)
-gathers_on (at.HasReply out preserved) new mine serial list list' e outcome reported adds =
-    absurd (not_in_error reported _ adds.0)
-gathers_on (at.Pushing out) new mine serial list list' e outcome reported adds = absurd (not_in_error reported _ adds.0)
+gathers_on _ new mine serial list list' e outcome reported adds = absurd (not_in_error reported _ adds.0)
 
 first_none : (a b : Option ChainError) → option_or a b ≡ None → a ≡ None
 first_none None b is = refl
@@ -165,11 +158,7 @@ more_moved old new serial list list' (e ∷ entries) names n (Err x) is nothing 
       ∙ ap (λ (k : ℕ). serial_error old.state k serial) nothing.2
       ∙ is.1,
 )
-more_moved old new serial list list' [] names n (Ok added.Full) is nothing = absurd nothing
-more_moved old new serial list list' [] names n (Ok added.NoRoom) is nothing = absurd nothing
-more_moved old new serial list list' [] names n (Ok added.TooLong) is nothing = absurd nothing
-more_moved old new serial list list' [] names n (Err x) is nothing = absurd nothing
-more_moved old new serial list list' (e ∷ entries) names n (Ok reported) is nothing = absurd nothing
+more_moved old new serial list list' _ names n _ is nothing = absurd nothing
 
 not_first : (n : ℕ) (reported : Result Added ChainError) → refused_by (suc n) reported ≡ None
 not_first n (Ok reported) = refl
@@ -246,17 +235,9 @@ left_out : (old new : ChainHandle) (serial : ℕ) (list list' : List ℕ) (e : L
     → CameTo page_size c es (brought_of e name ∷ more) list' (Ok why) new
 unfolding AddsEntry
 left_out old new serial list list' e name more added.In isnt one page_size c es held numbers = absurd (isnt refl)
-left_out old new serial list list' e name more added.Full isnt one page_size c es held numbers =
+left_out old new serial list list' e name more why isnt one page_size c es held numbers =
     let r = one.step page_size c es [] held in
-    subst (λ (l : List ℕ). CameTo page_size c es (brought_of e name ∷ more) l (Ok added.Full) new) (sym r.2)
-    (r.0, numbers, r.1, one.number)
-left_out old new serial list list' e name more added.NoRoom isnt one page_size c es held numbers =
-    let r = one.step page_size c es [] held in
-    subst (λ (l : List ℕ). CameTo page_size c es (brought_of e name ∷ more) l (Ok added.NoRoom) new) (sym r.2)
-    (r.0, numbers, r.1, one.number)
-left_out old new serial list list' e name more added.TooLong isnt one page_size c es held numbers =
-    let r = one.step page_size c es [] held in
-    subst (λ (l : List ℕ). CameTo page_size c es (brought_of e name ∷ more) l (Ok added.TooLong) new) (sym r.2)
+    subst (λ (l : List ℕ). CameTo page_size c es (brought_of e name ∷ more) l (Ok why) new) (sym r.2)
     (r.0, numbers, r.1, one.number)
 
 by_left : (old new : ChainHandle) (serial : ℕ) (list list' : List ℕ) (e : ListedEntry)
@@ -291,12 +272,7 @@ unmoved (at.Lists out l) new list list' e outcome x adds = by_outcome (outcome l
       adds.1.1 ∙ ap (λ (k : Listing). at.Lists out k) (is.same why refl).0,
       (is.same why refl).1,
     )
-unmoved (at.Waits out w) new list list' e outcome x adds = (adds.1, adds.2)
-unmoved at.Free new list list' e outcome x adds = (adds.1, adds.2)
-unmoved (at.Walking course pop_id walk) new list list' e outcome x adds = (adds.1, adds.2)
-unmoved (at.Taken out) new list list' e outcome x adds = (adds.1, adds.2)
-unmoved (at.HasReply out preserved) new list list' e outcome x adds = (adds.1, adds.2)
-unmoved (at.Pushing out) new list list' e outcome x adds = (adds.1, adds.2)
+unmoved _ new list list' e outcome x adds = (adds.1, adds.2)
 
 refused_same : (old new : ChainHandle) (serial : ℕ) (list list' : List ℕ) (e : ListedEntry) (name : List ℕ) (x : ChainError)
     → BringsSo old new serial list list' e name (Err x) → Unmoved old new list list'

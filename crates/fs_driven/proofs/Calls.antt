@@ -82,12 +82,7 @@ may_same : (limit : ℕ) (q : QueueState) (p : Pop) (old new : ChainHandle) (st 
     → MayPop limit q p new st
 may_same limit q p old new (at.Walking course pop_id walk) same may =
     (pop_same limit p old new same may.0, may.1)
-may_same limit q p old new at.Free same may = tt
-may_same limit q p old new (at.Taken out) same may = tt
-may_same limit q p old new (at.Waits out w) same may = tt
-may_same limit q p old new (at.Lists out l) same may = tt
-may_same limit q p old new (at.HasReply out preserved) same may = tt
-may_same limit q p old new (at.Pushing out) same may = tt
+may_same limit q p old new _ same may = tt
 
 fits_same : (places : Memory) (limit : ℕ) (q : QueueState) (p : Pop) (old new : ChainHandle) → IsSameHeld old new
     → FitsRun places limit q p old → FitsRun places limit q p new
@@ -101,12 +96,7 @@ fits_same places limit q p old new same fits = (
 may_out : (limit : ℕ) (q : QueueState) (p : Pop) (w : ChainHandle) (st : state.ChainState) → is_out st ≡ true →
     MayPop limit q p w st
 may_out limit q p w (at.Walking course pop_id walk) out = absurd (not_free false out refl)
-may_out limit q p w at.Free out = tt
-may_out limit q p w (at.Taken o) out = tt
-may_out limit q p w (at.Waits o k) out = tt
-may_out limit q p w (at.Lists o l) out = tt
-may_out limit q p w (at.HasReply o preserved) out = tt
-may_out limit q p w (at.Pushing o) out = tt
+may_out limit q p w _ out = tt
 
 pub fits_out : (places : Memory) (limit : ℕ) (q : QueueState) (p r : Pop) (old new : ChainHandle) →
     KeepsMemory old new → is_out new.state ≡ true
@@ -257,31 +247,16 @@ HasNoPush _ = Unit {0}
 call_no_push : (s : Setting) (m : Meaning) (bytes : List ℕ) (made : made_call.FileCall) (out : InFlight)
     (st : state.ChainState) → KeepsCall s m bytes made out st → HasNoPush st
 call_no_push s m bytes made out (at.Pushing o) keeps = absurd keeps
-call_no_push s m bytes made out (at.HasReply o preserved) keeps = tt
-call_no_push s m bytes made out at.Free keeps = tt
-call_no_push s m bytes made out (at.Walking course pop_id walk) keeps = tt
-call_no_push s m bytes made out (at.Taken o) keeps = tt
-call_no_push s m bytes made out (at.Waits o w) keeps = tt
-call_no_push s m bytes made out (at.Lists o l) keeps = tt
+call_no_push s m bytes made out _ keeps = tt
 
 pub reply_no_push : (s : Setting) (m : Meaning) (bytes : List ℕ) (out : InFlight) (st : state.ChainState) →
     KeepsReply s m bytes out st → HasNoPush st
 reply_no_push s m bytes out (at.Pushing o) keeps = absurd keeps
-reply_no_push s m bytes out (at.HasReply o preserved) keeps = tt
-reply_no_push s m bytes out at.Free keeps = tt
-reply_no_push s m bytes out (at.Walking course pop_id walk) keeps = tt
-reply_no_push s m bytes out (at.Taken o) keeps = tt
-reply_no_push s m bytes out (at.Waits o w) keeps = tt
-reply_no_push s m bytes out (at.Lists o l) keeps = tt
+reply_no_push s m bytes out _ keeps = tt
 
 pub replied_no_push : (reply bytes : List ℕ) (st : state.ChainState) → IsRepliedWith reply bytes st → HasNoPush st
 replied_no_push reply bytes (at.Pushing o) is = absurd is
-replied_no_push reply bytes (at.HasReply o preserved) is = tt
-replied_no_push reply bytes at.Free is = tt
-replied_no_push reply bytes (at.Walking course pop_id walk) is = tt
-replied_no_push reply bytes (at.Taken o) is = tt
-replied_no_push reply bytes (at.Waits o w) is = tt
-replied_no_push reply bytes (at.Lists o l) is = tt
+replied_no_push reply bytes _ is = tt
 
 -- a chain without a pending call can be pushed
 pub done_ready : (page_size k : ℕ) (q : QueueState) (push : Option Begun) (c : InFlightChain)
@@ -295,22 +270,14 @@ done_ready page_size k q push c request options calls (at.HasReply out preserved
   (done, refl),
 )
 done_ready page_size k q push c request options calls (at.Pushing out) done quiet = absurd quiet
-done_ready page_size k q push c request options calls at.Free done quiet = tt
-done_ready page_size k q push c request options calls (at.Walking course pop_id walk) done quiet = tt
-done_ready page_size k q push c request options calls (at.Taken out) done quiet = tt
-done_ready page_size k q push c request options calls (at.Waits out w) done quiet = tt
-done_ready page_size k q push c request options calls (at.Lists out l) done quiet = tt
+done_ready page_size k q push c request options calls _ done quiet = tt
 
 pub call_waits : (page_size k : ℕ) (q : QueueState) (push : Option Begun) (c : InFlightChain) (s : Setting)
     (m : Meaning) (bytes : List ℕ) (made : made_call.FileCall) (out : InFlight) (st : state.ChainState)
     → KeepsCall s m bytes made out st → IsReady page_size k q push c st
 call_waits page_size k q push c s m bytes made out (at.HasReply o preserved) keeps = absurd keeps
 call_waits page_size k q push c s m bytes made out (at.Pushing o) keeps = absurd keeps
-call_waits page_size k q push c s m bytes made out at.Free keeps = tt
-call_waits page_size k q push c s m bytes made out (at.Walking course pop_id walk) keeps = tt
-call_waits page_size k q push c s m bytes made out (at.Taken o) keeps = tt
-call_waits page_size k q push c s m bytes made out (at.Waits o w) keeps = tt
-call_waits page_size k q push c s m bytes made out (at.Lists o l) keeps = tt
+call_waits page_size k q push c s m bytes made out _ keeps = tt
 
 -- ---- small lemmas
 

@@ -220,12 +220,7 @@ may_decode (at.Taken out) len is = by_test (nat_lt out.request_len len) refl is
         len ≤ out.request_len
     by_test true test none = absurd (no_error BadArgument none)
     by_test false test none = ltb-false out.request_len len test
-may_decode at.Free len is = absurd (no_error WrongOrder is)
-may_decode (at.Walking course pop_id walk) len is = absurd (no_error WrongOrder is)
-may_decode (at.Waits out w) len is = absurd (no_error WrongOrder is)
-may_decode (at.Lists out l) len is = absurd (no_error WrongOrder is)
-may_decode (at.HasReply out preserved) len is = absurd (no_error WrongOrder is)
-may_decode (at.Pushing out) len is = absurd (no_error WrongOrder is)
+may_decode _ len is = absurd (no_error WrongOrder is)
 
 abbrev pub ReportsWhole : Session → (front : List ℕ) → Decoded → (new : ChainHandle) → InFlight → Type 0
 ReportsWhole session front reported new out =
@@ -255,11 +250,7 @@ decode_reports : (s : Machine) (i page_size k : ℕ) (q : QueueState) (ws ws' : 
     (gives.Decoded (Ok reported)) es)
 decode_reports s i page_size k q ws ws' os pops push old new c session front u (asks.More n) mine wanted means kept =
     λ after loads'. (wanted, means, (kept.0, refl), kept.1, refl)
-decode_reports s i page_size k q ws ws' os pops push old new c session front u (asks.Call made) mine wanted
-    means kept = λ after os' loads' is. (wanted, means, (kept.0, refl), kept.1, (c, mine, refl, is))
-decode_reports s i page_size k q ws ws' os pops push old new c session front u asks.Nothing mine wanted means kept =
-    λ after os' loads' is. (wanted, means, (kept.0, refl), kept.1, (c, mine, refl, is))
-decode_reports s i page_size k q ws ws' os pops push old new c session front u (asks.Fault e) mine wanted means kept =
+decode_reports s i page_size k q ws ws' os pops push old new c session front u _ mine wanted means kept =
     λ after os' loads' is. (wanted, means, (kept.0, refl), kept.1, (c, mine, refl, is))
 
 decode_taken : (old new : ChainHandle) (q : QueueState) (session : Session) (front : Bor (List ℕ))
@@ -310,13 +301,7 @@ decode_at : (old new : ChainHandle) (q : QueueState) (session : Session) (front 
     → DrivesOne session.page_size old new q q (does.Decode session front) (gives.Decoded (Ok reported))
 decode_at old new q session front reported (at.Taken out) is fits means wanted same decodes =
     decode_taken old new q session front reported out is fits means wanted same decodes
-decode_at old new q session front reported at.Free is fits means wanted same decodes = absurd fits
-decode_at old new q session front reported (at.Walking course pop_id walk) is fits means wanted same decodes =
-    absurd fits
-decode_at old new q session front reported (at.Waits out w) is fits means wanted same decodes = absurd fits
-decode_at old new q session front reported (at.Lists out l) is fits means wanted same decodes = absurd fits
-decode_at old new q session front reported (at.HasReply out preserved) is fits means wanted same decodes = absurd fits
-decode_at old new q session front reported (at.Pushing out) is fits means wanted same decodes = absurd fits
+decode_at old new q session front reported _ is fits means wanted same decodes = absurd fits
 
 -- ---- by what the call ensures
 

@@ -25,7 +25,7 @@ use Rattle.fs_driven.specs.Desks.{no_pop, with_pop}
 use Rattle.fs_driven.specs.Reported.{DrivesOne, GiveUpReports, Reports, Unseen, asked_len_of, exactly, replied_to}
 use Rattle.fs_driven.specs.Reported.{turn}
 use Rattle.fs_driven.specs.Preserved.{KeepsMemory}
-use Rattle.live_machine.specs.Live.{Abandoned, Asked, Fetched, IsUnreplied, Own, Phase, PoppedFaulty}
+use Rattle.live_machine.specs.Live.{Abandoned, Asked, Fetched, IsUnreplied, Own, Phase}
 use Rattle.live_machine.specs.Live.{RepliesOwnBytes, after_own, own_exchange}
 use Rattle.server_phases.specs.declared.session.Session.{Session}
 use Rattle.fs_chain.specs.Held.{IsWithoutReply}
@@ -349,37 +349,18 @@ unreplied_by : (c : InFlightChain) (p : Phase) (st : state.ChainState) (session 
     IsUnreplied c p (replied_to p u (asked_len_of st))
 unreplied_by c Fetched (at.Taken out) session page_size u is held =
     length_exactly out.request_len u.request ∙ held.request_len
-unreplied_by c Fetched (at.Waits out w) session page_size u is held = absurd held
-unreplied_by c Fetched (at.Lists out l) session page_size u is held = absurd held
-unreplied_by c Fetched at.Free session page_size u is held = absurd is
-unreplied_by c Fetched (at.Walking course pop_id walk) session page_size u is held = absurd is
-unreplied_by c Fetched (at.HasReply out preserved) session page_size u is held = absurd is
-unreplied_by c Fetched (at.Pushing out) session page_size u is held = absurd is
 unreplied_by c (Asked request options calls) st session page_size u is held = refl
-unreplied_by c (PoppedFaulty why) (at.Taken out) session page_size u is held = absurd held
-unreplied_by c (PoppedFaulty why) (at.Waits out w) session page_size u is held = absurd held
-unreplied_by c (PoppedFaulty why) (at.Lists out l) session page_size u is held = absurd held
-unreplied_by c (PoppedFaulty why) at.Free session page_size u is held = absurd is
-unreplied_by c (PoppedFaulty why) (at.Walking course pop_id walk) session page_size u is held = absurd is
-unreplied_by c (PoppedFaulty why) (at.HasReply out preserved) session page_size u is held = absurd is
-unreplied_by c (PoppedFaulty why) (at.Pushing out) session page_size u is held = absurd is
-unreplied_by c (Own request reply) (at.Taken out) session page_size u is held = absurd held
-unreplied_by c (Own request reply) (at.Waits out w) session page_size u is held = absurd held
-unreplied_by c (Own request reply) (at.Lists out l) session page_size u is held = absurd held
-unreplied_by c (Own request reply) at.Free session page_size u is held = absurd is
-unreplied_by c (Own request reply) (at.Walking course pop_id walk) session page_size u is held = absurd is
-unreplied_by c (Own request reply) (at.HasReply out preserved) session page_size u is held = absurd is
-unreplied_by c (Own request reply) (at.Pushing out) session page_size u is held = absurd is
 unreplied_by c (Abandoned fault) st session page_size u is held = absurd held
+unreplied_by c _ (at.Taken out) session page_size u is held = absurd held
+unreplied_by c _ (at.Lists out l) session page_size u is held = absurd held
+unreplied_by c _ (at.Waits out w) session page_size u is held = absurd held
+unreplied_by c _ _ session page_size u is held = absurd is
 
 without_out : (st : state.ChainState) → IsWithoutReply st → is_out st ≡ true
 without_out (at.Taken out) is = refl
 without_out (at.Waits out w) is = refl
 without_out (at.Lists out l) is = refl
-without_out at.Free is = absurd is
-without_out (at.Walking course pop_id walk) is = absurd is
-without_out (at.HasReply out preserved) is = absurd is
-without_out (at.Pushing out) is = absurd is
+without_out _ is = absurd is
 
 -- the handle keeps a reply of the caller's own bytes
 abbrev RepliedSo : (old new : ChainHandle) → (len : ℕ) → Type 0
@@ -452,13 +433,7 @@ reply_at old new q serial len (at.Lists out l) is clear kept made step page_size
     reply_drives page_size old new q serial len out
     (subst (λ (s : state.ChainState). IsWithoutReply s) (sym is) tt)
     (ap (λ (s : state.ChainState). own_error s old.serial serial len) is ∙ clear) kept made step
-reply_at old new q serial len at.Free is clear kept made step page_size = absurd (no_error WrongOrder clear)
-reply_at old new q serial len (at.Walking course pop_id walk) is clear kept made step page_size =
-    absurd (no_error WrongOrder clear)
-reply_at old new q serial len (at.HasReply out preserved) is clear kept made step page_size =
-    absurd (no_error WrongOrder clear)
-reply_at old new q serial len (at.Pushing out) is clear kept made step page_size =
-    absurd (no_error WrongOrder clear)
+reply_at old new q serial len _ is clear kept made step page_size = absurd (no_error WrongOrder clear)
 
 pub reply_result : (old new : ChainHandle) (q : QueueState) (serial len : ℕ)
     (result : Result (Unit {0}) ChainError)
@@ -508,17 +483,7 @@ push_at old new q q' front front' s (at.HasReply out preserved) is free len ok m
     push_drives page_size old new q q' front' s out preserved is free
     (subst (λ (n : ℕ). return_error old.state q n ≡ None) (sym len) ok)
     (by, (drop (front_len preserved) front, put)) made pushing step
-push_at old new q q' front front' s at.Free is free len ok made pushing by put step page_size = absurd free
-push_at old new q q' front front' s (at.Walking course pop_id walk) is free len ok made pushing by put step
-    page_size = absurd free
-push_at old new q q' front front' s (at.Taken out) is free len ok made pushing by put step page_size =
-    absurd free
-push_at old new q q' front front' s (at.Waits out w) is free len ok made pushing by put step page_size =
-    absurd free
-push_at old new q q' front front' s (at.Lists out l) is free len ok made pushing by put step page_size =
-    absurd free
-push_at old new q q' front front' s (at.Pushing out) is free len ok made pushing by put step page_size =
-    absurd free
+push_at old new q q' front front' s _ is free len ok made pushing by put step page_size = absurd free
 
 pub push_result : (old new : ChainHandle) (q q' : QueueState) (front front' : List ℕ)
     (result : Result PushStores ChainError)
@@ -553,12 +518,7 @@ IsBegun _ = ⊥
 
 may_end : (st : state.ChainState) (q : QueueState) → end_error st q ≡ None → IsBegun st
 may_end (at.Pushing out) q is = tt
-may_end at.Free q is = absurd (no_error WrongOrder is)
-may_end (at.Walking course pop_id walk) q is = absurd (no_error WrongOrder is)
-may_end (at.Taken out) q is = absurd (no_error WrongOrder is)
-may_end (at.Waits out w) q is = absurd (no_error WrongOrder is)
-may_end (at.Lists out l) q is = absurd (no_error WrongOrder is)
-may_end (at.HasReply out preserved) q is = absurd (no_error WrongOrder is)
+may_end _ q is = absurd (no_error WrongOrder is)
 
 end_at : (old new : ChainHandle) (q q' : QueueState) (seen : List ℕ) (notice : Bool) (st : state.ChainState)
     → old.state ≡ st → IsBegun st → new ≡ freed old → q' ≡ gave q → q.next_used < 2 ^ 16
@@ -566,13 +526,7 @@ end_at : (old new : ChainHandle) (q q' : QueueState) (seen : List ℕ) (notice :
     → (page_size : ℕ) → DrivesOne page_size old new q q' (does.Pushed seen) (gives.Ended (Ok notice))
 end_at old new q q' seen notice (at.Pushing out) is begun free gives_it small step page_size =
     end_drives page_size old new q q' seen notice out is free gives_it small step
-end_at old new q q' seen notice at.Free is begun free gives_it small step page_size = absurd begun
-end_at old new q q' seen notice (at.Walking course pop_id walk) is begun free gives_it small step page_size =
-    absurd begun
-end_at old new q q' seen notice (at.Taken out) is begun free gives_it small step page_size = absurd begun
-end_at old new q q' seen notice (at.Waits out w) is begun free gives_it small step page_size = absurd begun
-end_at old new q q' seen notice (at.Lists out l) is begun free gives_it small step page_size = absurd begun
-end_at old new q q' seen notice (at.HasReply out preserved) is begun free gives_it small step page_size = absurd begun
+end_at old new q q' seen notice _ is begun free gives_it small step page_size = absurd begun
 
 pub pushed_result : (old new : ChainHandle) (q q' : QueueState) (seen : List ℕ)
     (result : Result Bool ChainError)

@@ -41,12 +41,7 @@ use Rattle.fs_driven.proofs.Listings.{WasListing, no_push, not_err, was_listing}
 
 listing_is : (st : state.ChainState) → is_listing st ≡ true → WasListing st
 listing_is (at.Lists out l) is = (out, l, refl)
-listing_is at.Free is = absurd (not_free false is refl)
-listing_is (at.Walking course pop_id walk) is = absurd (not_free false is refl)
-listing_is (at.Taken out) is = absurd (not_free false is refl)
-listing_is (at.Waits out w) is = absurd (not_free false is refl)
-listing_is (at.HasReply out preserved) is = absurd (not_free false is refl)
-listing_is (at.Pushing out) is = absurd (not_free false is refl)
+listing_is _ is = absurd (not_free false is refl)
 
 ends_well : (P : Listing → ListingReply → Type 0) (why : Option ChainError) (Same : Type 0) (st new : state.ChainState) (len : ℕ)
     → UnlessRefused {A = ℕ} why (Ok len) Same (RepliesBy P st new (Ok len)) → WasListing st
@@ -102,11 +97,7 @@ was_before old mid serial list list' [] names n (Ok added.In) (inr nothing) list
     ap (λ (w : ChainHandle). is_listing w.state) (sym nothing.1) ∙ lists
 was_before old mid serial list list' (e ∷ entries) names n (Err x) (inr nothing) lists =
     ap is_listing (sym nothing.1.0) ∙ lists
-was_before old mid serial list list' [] names n (Ok added.Full) (inr nothing) lists = absurd nothing
-was_before old mid serial list list' [] names n (Ok added.NoRoom) (inr nothing) lists = absurd nothing
-was_before old mid serial list list' [] names n (Ok added.TooLong) (inr nothing) lists = absurd nothing
-was_before old mid serial list list' [] names n (Err x) (inr nothing) lists = absurd nothing
-was_before old mid serial list list' (e ∷ entries) names n (Ok why) (inr nothing) lists = absurd nothing
+was_before old mid serial list list' _ names n _ (inr nothing) lists = absurd nothing
 
 -- ---- a listing that ended
 
@@ -114,14 +105,8 @@ of_last : (page_size : ℕ) (c : InFlightChain) (es left : List Brought) (list :
     (reported : Result Added ChainError) (w : ChainHandle)
     → CameTo page_size c es left list reported w → IsOfLast reported left
 of_last page_size c es left list (Ok added.In) w came = came.2
-of_last page_size c es [] list (Ok added.Full) w came = absurd came
-of_last page_size c es [] list (Ok added.NoRoom) w came = absurd came
-of_last page_size c es [] list (Ok added.TooLong) w came = absurd came
-of_last page_size c es [] list (Err x) w came = absurd came
-of_last page_size c es (e ∷ left) list (Ok added.Full) w came = tt
-of_last page_size c es (e ∷ left) list (Ok added.NoRoom) w came = tt
-of_last page_size c es (e ∷ left) list (Ok added.TooLong) w came = tt
-of_last page_size c es (e ∷ left) list (Err x) w came = tt
+of_last page_size c es (e ∷ left) list _ w came = tt
+of_last page_size c es [] list _ w came = absurd came
 
 gathered_drives : (page_size : ℕ) (old mid new : ChainHandle) (q : QueueState) (serial : ℕ)
     (before list : List ℕ) (entries : List ListedEntry) (names : List ℕ) (failure : Option ℕ) (n len : ℕ)
@@ -210,11 +195,7 @@ nothing_reported old mid serial before list (entry ∷ entries) names failure n 
         subst (λ (w : ChainHandle). BringsSo old w serial list list entry (take entry.name_len names) (Err e)) (sym is.1) reported_e,
       ),
     )
-nothing_reported old mid serial before list [] names failure n (Ok added.Full) new e nothing ends = absurd nothing
-nothing_reported old mid serial before list [] names failure n (Ok added.NoRoom) new e nothing ends = absurd nothing
-nothing_reported old mid serial before list [] names failure n (Ok added.TooLong) new e nothing ends = absurd nothing
-nothing_reported old mid serial before list [] names failure n (Err x) new e nothing ends = absurd nothing
-nothing_reported old mid serial before list (entry ∷ entries) names failure n (Ok why) new e nothing ends = absurd nothing
+nothing_reported old mid serial before list _ names failure n _ new e nothing ends = absurd nothing
 
 never_refused : (old mid : ChainHandle) (serial : ℕ) (list list' : List ℕ) (entries : List ListedEntry) (names : List ℕ)
     (failure : Option ℕ) (n : ℕ) (reported : Result Added ChainError) (new : ChainHandle) (e : ChainError)

@@ -5,7 +5,7 @@ use Rattle.std.proofs.Common.{refl, subst, sym, ap, ◌∙◌, eqb-true, ◌==�
 use Rattle.std.specs.Prelude.{if◌then◌else◌, length}
 use Rattle.std.specs.List.{AllByRecursion}
 use Rattle.vm_memory.specs.Memory.{Memory}
-use Rattle.live_machine.specs.Live.{Abandoned, Asked, Fetched, InFlightChain, Own, Phase}
+use Rattle.live_machine.specs.Live.{InFlightChain, Phase}
 use Rattle.live_machine.specs.Live.{LiveEvent, PoppedFaulty}
 use Rattle.plain_machine.specs.Step.{Exchange}
 use Rattle.fs_chain.specs.Queues.{SameEventIndex}
@@ -128,11 +128,7 @@ ready_on : (page_size k : ℕ) (q q' : QueueState) (push : Option Begun) (c : In
 ready_on page_size k q q' push c (at.Pushing out) same is =
     (is.0, is.1, under_way_on k q q' c is.0 push same is.2)
 ready_on page_size k q q' push c (at.HasReply out preserved) same is = is
-ready_on page_size k q q' push c at.Free same is = tt
-ready_on page_size k q q' push c (at.Walking course pop_id walk) same is = tt
-ready_on page_size k q q' push c (at.Taken out) same is = tt
-ready_on page_size k q q' push c (at.Waits out w) same is = tt
-ready_on page_size k q q' push c (at.Lists out l) same is = tt
+ready_on page_size k q q' push c _ same is = tt
 
 pub others_same : (page_size k : ℕ) (q q' : QueueState) (push : Option Begun) → SamePlaces q q' →
     OthersReady page_size k q q' push push
@@ -154,11 +150,7 @@ others_none page_size k q q' push push' only j c st apart is = by_state st is
     by_state : (st : state.ChainState) → IsReady page_size j q push c st → IsReady page_size j q' push' c st
     by_state (at.Pushing out) is = absurd (not_theirs is.0 push only is.2)
     by_state (at.HasReply out preserved) is = is
-    by_state at.Free is = tt
-    by_state (at.Walking course pop_id walk) is = tt
-    by_state (at.Taken out) is = tt
-    by_state (at.Waits out w) is = tt
-    by_state (at.Lists out l) is = tt
+    by_state _ is = tt
 
 -- what each event here keeps of the run, and each call of its handle
 pub record Moves (s after : Machine) (i page_size k : ℕ) (q q' : QueueState) (p : Pop)
@@ -423,20 +415,12 @@ pub held_out : (page_size : ℕ) (c : InFlightChain) (p : Phase) (st : state.Cha
     IsHeldIn page_size c p st session →
     is_out st ≡ true
 held_out page_size c (PoppedFaulty why) at.Free session held = absurd held
-held_out page_size c Fetched at.Free session held = absurd held
-held_out page_size c (Asked request options calls) at.Free session held = absurd held
-held_out page_size c (Own request reply) at.Free session held = absurd held
-held_out page_size c (Abandoned fault) at.Free session held = absurd held
-held_out page_size c (PoppedFaulty why) (at.Walking course pop_id walk) session held = absurd held
-held_out page_size c Fetched (at.Walking course pop_id walk) session held = absurd held
-held_out page_size c (Asked request options calls) (at.Walking course pop_id walk) session held = absurd held
-held_out page_size c (Own request reply) (at.Walking course pop_id walk) session held = absurd held
-held_out page_size c (Abandoned fault) (at.Walking course pop_id walk) session held = absurd held
 held_out page_size c p (at.Taken out) session held = refl
 held_out page_size c p (at.Waits out w) session held = refl
 held_out page_size c p (at.Lists out l) session held = refl
 held_out page_size c p (at.HasReply out preserved) session held = refl
 held_out page_size c p (at.Pushing out) session held = refl
+held_out page_size c _ _ session held = absurd held
 
 -- what a handle has is its chain of the run
 pub record Has (s : Machine) (i page_size : ℕ) (q : QueueState) (ws : List ChainHandle) (os : List Owned)

@@ -178,8 +178,7 @@ unread_by : (X : Calls → Type 0) (call : FileCall) (b : Bool) (es : List Broug
     → X ((call, Entries (entries_of es)) ∷ all_looked_up call b es) → X ((call, Failed errno) ∷ [])
     → X (unreadable_calls call b es errno)
 unread_by X call true (e ∷ es) errno there alone = there
-unread_by X call true [] errno there alone = alone
-unread_by X call false es errno there alone = alone
+unread_by X call _ _ errno there alone = alone
 
 -- ---- a listing that ends
 
@@ -311,7 +310,6 @@ came_to_end s before behind c es left (Ok added.In) None list w new serial len o
     }
 came_to_end s before behind c es left (Ok added.In) (Some errno) list w new serial len out came ends =
     unreadable_so s before behind c es list w new serial len errno came.0 out came.1 ends
-came_to_end s before behind c es [] (Ok added.Full) failure list w new serial len out came ends = absurd came
 came_to_end s before behind c es (e ∷ left) (Ok added.Full) failure list w new serial len out came ends =
     let h = came.0 in
     let calls = calls_by s.page_size c es list w h (FullAt e (entries_of left)) in
@@ -321,14 +319,12 @@ came_to_end s before behind c es (e ∷ left) (Ok added.Full) failure list w new
       listed = ends.3 s.page_size (asked_chain c h.request h.options calls) es (FullAt e (entries_of left)) calls list
           (at_calls s.page_size c es list w h calls) came.2 refl;
     }
-came_to_end s before behind c es [] (Ok added.NoRoom) failure list w new serial len out came ends = absurd came
 came_to_end s before behind c es (e ∷ left) (Ok added.NoRoom) failure list w new serial len out came ends =
     fails_so s before behind c es list w new serial len EIO e (entries_of left) added.NoRoom came.0 out came.1 came.3
     came.2 (refl, came.2) ends
-came_to_end s before behind c es [] (Ok added.TooLong) failure list w new serial len out came ends = absurd came
 came_to_end s before behind c es (e ∷ left) (Ok added.TooLong) failure list w new serial len out came ends =
     fails_so s before behind c es list w new serial len EOVERFLOW e (entries_of left) added.TooLong came.0 out came.1
     came.3 came.2 (refl, came.2) ends
-came_to_end s before behind c es [] (Err x) failure list w new serial len out came ends = absurd came
 came_to_end s before behind c es (e ∷ left) (Err x) failure list w new serial len out came ends =
     unreadable_so s before behind c es list w new serial len EIO came.0 out came.1 ends
+came_to_end s before behind c es [] _ failure list w new serial len out came ends = absurd came

@@ -49,12 +49,7 @@ WasListing st = (out : InFlight) × (l : Listing) × (st ≡ at.Lists out l)
 pub was_listing : (P : Listing → ListingReply → Type 0) (st new : state.ChainState) (len : ℕ) → RepliesBy P st new (Ok len) →
     WasListing st
 was_listing P (at.Lists out l) new len is = (out, l, refl)
-was_listing P (at.Waits out w) new len is = absurd (not_err len _ is.0)
-was_listing P at.Free new len is = absurd (not_err len _ is.0)
-was_listing P (at.Walking course pop_id walk) new len is = absurd (not_err len _ is.0)
-was_listing P (at.Taken out) new len is = absurd (not_err len _ is.0)
-was_listing P (at.HasReply out preserved) new len is = absurd (not_err len _ is.0)
-was_listing P (at.Pushing out) new len is = absurd (not_err len _ is.0)
+was_listing P _ new len is = absurd (not_err len _ is.0)
 
 -- the handle gathers the same listing once its directory was read
 abbrev read_calls : FileCall → FileAnswer → Calls

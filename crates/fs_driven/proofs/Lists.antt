@@ -19,9 +19,8 @@ use Rattle.fs_driven.specs.declared.commands.Returned.TheVariants as gives
 use Rattle.fs_chain.specs.declared.queue.QueueState.{QueueState}
 
 set_changed : {A : Type 0} (xs : List A) (k : ℕ) (x : A) → slice_set xs k x ≡ changed_at xs k (λ _. x)
-set_changed [] k x = refl
-set_changed (y ∷ ys) zero x = refl
 set_changed {A} (y ∷ ys) (suc k) x = ap (λ (l : List A). y ∷ l) (set_changed ys k x)
+set_changed _ _ x = refl
 
 -- one call
 pub single : (zs : List Seen) (c : Called) → seen_of zs ≡ c ∷ [] → (u : Unseen) × (zs ≡ (c, u) ∷ [])
@@ -118,12 +117,8 @@ one_more : (ks : List ℕ) (before now : List Command) (rs : List Returned) (n k
     → drop n now ≡ drop n before → length now ≡ length before
     → calls_of (take (suc n) ks) (take (suc n) before) (take (suc n) (slice_set rs n r))
     ≡ calls_of (take n ks) (take n before) (take n rs) ++ call_of k x r ∷ []
-one_more [] before now rs n k x r in_ks in_now in_rs is_k is_x left whole = absurd (omega arith)
-one_more (j ∷ ks) before [] rs n k x r in_ks in_now in_rs is_k is_x left whole = absurd (omega arith)
 one_more (j ∷ ks) [] (b ∷ now) rs n k x r in_ks in_now in_rs is_k is_x left whole =
     absurd (omega (arith, whole))
-one_more (j ∷ ks) (a ∷ before) (b ∷ now) [] n k x r in_ks in_now in_rs is_k is_x left whole =
-    absurd (omega arith)
 one_more (j ∷ ks) (a ∷ before) (b ∷ now) (s ∷ rs) zero k x r in_ks in_now in_rs is_k is_x left whole =
     let same : x ≡ a = is_x ∙ same_first b a now before left in
     ap (λ (c : Command). call_of j c r ∷ []) (sym same) ∙ ap (λ (i : ℕ). call_of i x r ∷ []) (sym is_k)
@@ -134,20 +129,19 @@ one_more (j ∷ ks) (a ∷ before) (b ∷ now) (s ∷ rs) (suc n) k x r in_ks in
     let same : length now ≡ length before = omega (arith, whole) in
     ap (λ (l : List Called). call_of j a s ∷ l)
     (one_more ks before now rs n k x r less_k less_now less_r is_k is_x left same)
+one_more _ _ _ _ n k x r in_ks in_now in_rs is_k is_x left whole = absurd (omega arith)
 
 left_then : (before now : List Command) (n : ℕ) (y : Command) → drop n now ≡ drop n before →
     length now ≡ length before → drop (suc n) (slice_set now n y) ≡ drop (suc n) before
 left_then [] [] n y left whole = refl
-left_then (a ∷ before) [] n y left whole = absurd (omega (arith, whole))
-left_then [] (b ∷ now) n y left whole = absurd (omega (arith, whole))
 left_then (a ∷ before) (b ∷ now) zero y left whole = same_rest b a now before left
 left_then (a ∷ before) (b ∷ now) (suc n) y left whole =
     let same : length now ≡ length before = omega (arith, whole) in left_then before now n y left same
+left_then _ _ n y left whole = absurd (omega (arith, whole))
 
 set_length : (now : List Command) (n : ℕ) (y : Command) → length (slice_set now n y) ≡ length now
-set_length [] n y = refl
-set_length (b ∷ now) zero y = refl
 set_length (b ∷ now) (suc n) y = ap suc (set_length now n y)
+set_length _ _ y = refl
 
 pub more_so_far : (page_size : ℕ) (ws0 ws ws' : List ChainHandle) (q0 q q' : QueueState) (ks : List ℕ)
     (before now : List Command) (rs : List Returned) (n k : ℕ) (x y : Command) (r : Returned)
@@ -179,11 +173,8 @@ all_taken : (ks : List ℕ) (cs : List Command) (rs : List Returned) (n : ℕ)
     → (length ks ≤ n) ⊎ ((length cs ≤ n) ⊎ (length rs ≤ n))
     → calls_of (take n ks) (take n cs) (take n rs) ≡ calls_of ks cs rs
 all_taken [] cs rs zero past = refl
-all_taken [] cs rs (suc n) past = refl
 all_taken (k ∷ ks) [] rs zero past = refl
-all_taken (k ∷ ks) [] rs (suc n) past = refl
 all_taken (k ∷ ks) (c ∷ cs) [] zero past = refl
-all_taken (k ∷ ks) (c ∷ cs) [] (suc n) past = refl
 all_taken (k ∷ ks) (c ∷ cs) (r ∷ rs) zero (inl past) = absurd (omega arith)
 all_taken (k ∷ ks) (c ∷ cs) (r ∷ rs) zero (inr (inl past)) = absurd (omega arith)
 all_taken (k ∷ ks) (c ∷ cs) (r ∷ rs) zero (inr (inr past)) = absurd (omega arith)
@@ -196,6 +187,7 @@ all_taken (k ∷ ks) (c ∷ cs) (r ∷ rs) (suc n) (inr (inl past)) =
 all_taken (k ∷ ks) (c ∷ cs) (r ∷ rs) (suc n) (inr (inr past)) =
     let less : length rs ≤ n = omega arith in
     ap (λ (l : List Called). call_of k c r ∷ l) (all_taken ks cs rs n (inr (inr less)))
+all_taken _ _ _ _ past = refl
 
 pub all_so_far : (page_size : ℕ) (ws0 ws : List ChainHandle) (q0 q : QueueState) (ks : List ℕ)
     (before now : List Command) (rs : List Returned) (n : ℕ)

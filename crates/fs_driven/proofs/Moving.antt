@@ -147,10 +147,8 @@ moves_alone s i q q' m w there none is may alone =
 
 moves_by : (s : Machine) (i : ℕ) (q q' : QueueState) (m : Memory) (queues : List LiveQueue) → s.queues ≡ queues
     → IsQueue s i q → s.chains ≡ [] → q' ≡ restored q → MayMove q' → Moved s i q q' m
-moves_by s i q q' m [] are there none is may =
-    resets_and_remaps s i q q' m there none may (ap (λ (l : List LiveQueue). moving i l (live_of q') m) are)
 moves_by s i q q' m (w ∷ []) are there none is may = moves_alone s i q q' m w there none is may are
-moves_by s i q q' m (w ∷ v ∷ queues) are there none is may =
+moves_by s i q q' m _ are there none is may =
     resets_and_remaps s i q q' m there none may (ap (λ (l : List LiveQueue). moving i l (live_of q') m) are)
 
 moved : (ws ws' : List ChainHandle) (q q' : QueueState) (alloc : Global) (regions : Bor (List Region))

@@ -116,11 +116,7 @@ popped_ready page_size n k q push c None st session is quiet held =
 popped_ready page_size n k q push c (Some why) (at.HasReply out preserved) session is quiet held =
     (faulty c.head why, subst (λ (p : Phase). PushedWith page_size c p (faulty c.head why)) (sym is) refl)
 popped_ready page_size n k q push c (Some why) (at.Pushing out) session is quiet held = absurd quiet
-popped_ready page_size n k q push c (Some why) at.Free session is quiet held = tt
-popped_ready page_size n k q push c (Some why) (at.Walking course pop_id walk) session is quiet held = tt
-popped_ready page_size n k q push c (Some why) (at.Taken out) session is quiet held = tt
-popped_ready page_size n k q push c (Some why) (at.Waits out w) session is quiet held = tt
-popped_ready page_size n k q push c (Some why) (at.Lists out l) session is quiet held = tt
+popped_ready page_size n k q push c (Some why) _ session is quiet held = tt
 
 -- what a pop keeps
 pub record Popping (old new : ChainHandle) (q q' : QueueState) : Type 0 where
@@ -150,11 +146,6 @@ ended : (s : Machine) (i page_size k : ℕ) (q q' : QueueState) (ws : List Chain
     → HasPopped s i (live_of q) loaded came new
     → PoppedReports q' (with_handle ws k new) push (EndsPop i loaded new.descriptors.items came ∷ []) T
     → Leads s i page_size q' (with_handle ws k new) T
-ended s i page_size k q q' ws os pops push old new loaded (step.Load walk) T all there free same happens queue
-    has reports =
-    absurd happens.ends
-ended s i page_size k q q' ws os pops push old new loaded (step.Missing range access) T all there free same
-    happens queue has reports = absurd happens.ends
 ended s i page_size k q q' ws os pops push old new loaded step.Idle T all there free same happens queue has
     reports =
     let now : live_of q' ≡ live_of q = sym (same_some (live_of q) (live_of q') (sym all.queue ∙ queue)) in (
@@ -230,6 +221,7 @@ ended s i page_size k q q' ws os pops push old new loaded (step.Chain head fault
           (refl, popped_ready page_size s.page_size k q' push c fault new.state new.session refl same.quiet has),
       reports after (os ++ own k c ∷ []) (with_pop pops k no_pop),
     )
+ended s i page_size k q q' ws os pops push old new loaded _ T all there free same happens queue has reports = absurd happens.ends
 
 refused : (s : Machine) (i page_size k : ℕ) (q q' : QueueState) (ws : List ChainHandle) (os : List Owned)
     (pops : ℕ → Pop) (push : Option Begun) (old new : ChainHandle) (reported : walked.PopOutcome)
@@ -277,8 +269,6 @@ ends_tell : (t : Turn) (s after : Machine) (q : LiveQueue) (loaded : Loaded) (ca
     (reported : walked.PopOutcome) → reported ≡ reported_of t.now.descriptors.items came
     → EndsPopIn s t.queue q loaded t.now.descriptors.items came after
     → PopReports t loaded reported (EndsPop t.queue loaded t.now.descriptors.items came ∷ [])
-ends_tell t s after q loaded (step.Load walk) reported is ends = absurd ends
-ends_tell t s after q loaded (step.Missing range access) reported is ends = absurd ends
 ends_tell t s after q loaded step.Idle reported is ends =
     subst (λ (x : walked.PopOutcome). PopReports t loaded x
     (EndsPop t.queue loaded t.now.descriptors.items step.Idle ∷ [])) (sym is) refl
@@ -291,6 +281,7 @@ ends_tell t s after q loaded (step.Chain head None) reported is ends =
 ends_tell t s after q loaded (step.Chain head (Some fault)) reported is ends =
     subst (λ (x : walked.PopOutcome). PopReports t loaded x
     (EndsPop t.queue loaded t.now.descriptors.items (step.Chain head (Some fault)) ∷ [])) (sym is) refl
+ends_tell t s after q loaded _ reported is ends = absurd ends
 
 -- T tells of what a pop tells
 abbrev GivesPop : (i page_size k : ℕ) → Desk → QueueState → (old new : ChainHandle) → Loaded →
@@ -358,20 +349,9 @@ popped s i page_size k q q' ws os pops push old new p (shows.Missing range acces
           (same_count (live_of q) (live_of q') (ap live_of is.1)) refl free (ap is_out is.0),
       give s os (with_pop pops k no_pop) [] refl,
     )
-popped s i page_size k q q' ws os pops push old new p shows.Idle T all there free same event give is =
-    ends_or_refused s i page_size k q q' ws os pops push old new p.loaded shows.Idle T all there free same give
+popped s i page_size k q q' ws os pops push old new p reported T all there free same event give is =
+    ends_or_refused s i page_size k q q' ws os pops push old new p.loaded reported T all there free same give
     is
-popped s i page_size k q q' ws os pops push old new p (shows.Refused x) T all there free same event give is =
-    ends_or_refused s i page_size k q q' ws os pops push old new p.loaded (shows.Refused x) T all there free
-    same give is
-popped s i page_size k q q' ws os pops push old new p (shows.Chain head n m) T all there free same event give
-    is =
-    ends_or_refused s i page_size k q q' ws os pops push old new p.loaded (shows.Chain head n m) T all there
-    free same give is
-popped s i page_size k q q' ws os pops push old new p (shows.Faulty head why) T all there free same event give
-    is =
-    ends_or_refused s i page_size k q q' ws os pops push old new p.loaded (shows.Faulty head why) T all there
-    free same give is
 
 abbrev PopReported : (page_size : ℕ) → (old new : ChainHandle) → (q q' : QueueState) → Bor (List ℕ) →
     outcome.LoadOutcome → Type 0
@@ -443,19 +423,12 @@ continues page_size old new q q' bytes (outcomes.On reported) course pop_id walk
 -- the state after a pop's step isn't a push
 step_quiet : (course : Course) (pop_id : PopId) (ds : List Descriptor) (came : comes.CourseStep) →
     HasNoPush (state_after course pop_id ds came)
-step_quiet course pop_id ds (step.Load walk) = tt
-step_quiet course pop_id ds step.Idle = tt
-step_quiet course pop_id ds (step.Refused e) = tt
 step_quiet course pop_id ds (step.Chain head None) = tt
-step_quiet course pop_id ds (step.Chain head (Some fault)) = tt
-step_quiet course pop_id ds (step.Missing range access) = tt
+step_quiet course pop_id ds _ = tt
 
 step_pushing : (q : QueueState) (came : comes.CourseStep) → (queue_after q came).pushing ≡ q.pushing
 step_pushing q (step.Load walk) = refl
-step_pushing q step.Idle = refl
-step_pushing q (step.Refused e) = refl
-step_pushing q (step.Chain head fault) = refl
-step_pushing q (step.Missing range access) = refl
+step_pushing q _ = refl
 
 preserved_step : (course : Course) (pop_id : PopId) (came : comes.CourseStep) (old new : ChainHandle)
     (q q' : QueueState) (reported : walked.PopOutcome) → KeepsStep course pop_id came old new q q' reported →
@@ -541,8 +514,6 @@ pop_at : (page_size : ℕ) (old new : ChainHandle) (q q' : QueueState) (bytes : 
     old.state ≡ st
     → ProceedsSo old q bytes.now reported new q' → PopsBy st old new q q' bytes.now reported →
     PopReported page_size old new q q' bytes reported
-pop_at page_size old new q q' bytes outcomes.Part at.Free is proceeds by =
-    absurd (no_part old bytes.now proceeds.1 (ap load_len is))
 pop_at page_size old new q q' bytes (outcomes.On reported) at.Free is proceeds by =
     let on = subst (λ (st : state.ChainState). WalksFrom st (whole old bytes.now) old new q q' reported) is proceeds.4
     in
@@ -556,26 +527,9 @@ pop_at page_size old new q q' bytes (outcomes.On reported) (at.Walking course po
     in
     continues page_size old new q q' bytes (outcomes.On reported) course pop_id walk is proceeds by
     (gone_keeps old new q q' (whole old bytes.now) reported course pop_id walk q.stopped on)
-pop_at page_size old new q q' bytes (outcomes.On reported) (at.Taken o) is proceeds by =
+pop_at page_size old new q q' bytes (outcomes.On reported) _ is proceeds by =
     absurd (subst (λ (st : state.ChainState). WalksFrom st (whole old bytes.now) old new q q' reported) is proceeds.4)
-pop_at page_size old new q q' bytes outcomes.Part (at.Taken o) is proceeds by =
-    absurd (no_part old bytes.now proceeds.1 (ap load_len is))
-pop_at page_size old new q q' bytes (outcomes.On reported) (at.Waits o w) is proceeds by =
-    absurd (subst (λ (st : state.ChainState). WalksFrom st (whole old bytes.now) old new q q' reported) is proceeds.4)
-pop_at page_size old new q q' bytes outcomes.Part (at.Waits o w) is proceeds by =
-    absurd (no_part old bytes.now proceeds.1 (ap load_len is))
-pop_at page_size old new q q' bytes (outcomes.On reported) (at.Lists o l) is proceeds by =
-    absurd (subst (λ (st : state.ChainState). WalksFrom st (whole old bytes.now) old new q q' reported) is proceeds.4)
-pop_at page_size old new q q' bytes outcomes.Part (at.Lists o l) is proceeds by =
-    absurd (no_part old bytes.now proceeds.1 (ap load_len is))
-pop_at page_size old new q q' bytes (outcomes.On reported) (at.HasReply o preserved) is proceeds by =
-    absurd (subst (λ (st : state.ChainState). WalksFrom st (whole old bytes.now) old new q q' reported) is proceeds.4)
-pop_at page_size old new q q' bytes outcomes.Part (at.HasReply o preserved) is proceeds by =
-    absurd (no_part old bytes.now proceeds.1 (ap load_len is))
-pop_at page_size old new q q' bytes (outcomes.On reported) (at.Pushing o) is proceeds by =
-    absurd (subst (λ (st : state.ChainState). WalksFrom st (whole old bytes.now) old new q q' reported) is proceeds.4)
-pop_at page_size old new q q' bytes outcomes.Part (at.Pushing o) is proceeds by =
-    absurd (no_part old bytes.now proceeds.1 (ap load_len is))
+pop_at page_size old new q q' bytes outcomes.Part _ is proceeds by = absurd (no_part old bytes.now proceeds.1 (ap load_len is))
 
 pub pop_result : (old new : ChainHandle) (q q' : QueueState) (bytes : Bor (List ℕ))
     (result : Result outcome.LoadOutcome ChainError)

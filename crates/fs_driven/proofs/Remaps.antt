@@ -43,8 +43,6 @@ pub record Took (regions : List Region) (olds : List ChainHandle) (k : ℕ) (new
 pub took : (regions : List Region) (olds news : List ChainHandle) (k : ℕ) (new : ChainHandle)
     → TakeMemory regions olds news → slice_get news k ≡ Some new → Took regions olds k new
 took regions [] [] k new all there = absurd (none_some new there)
-took regions [] (v ∷ news) k new all there = absurd all
-took regions (w ∷ olds) [] k new all there = absurd all
 took regions (w ∷ olds) (v ∷ news) zero new all there = record {
   old = w;
   there = refl;
@@ -53,6 +51,7 @@ took regions (w ∷ olds) (v ∷ news) zero new all there = record {
 took regions (w ∷ olds) (v ∷ news) (suc k) new all there =
     let r = took regions olds news k new all.1 there in
     record { old = r.old; there = r.there; takes = r.takes }
+took regions _ _ k new all there = absurd all
 
 pub is_free : (regions : List Region) (ws ws' : List ChainHandle) (k : ℕ) (new : ChainHandle)
     → TakeMemory regions ws ws' → slice_get ws' k ≡ Some new → new.state ≡ at.Free
