@@ -63,12 +63,7 @@ ended_of q (at.Pushing out) ok = out_of_queue q out (ended (is_in_flight_of q ou
     ended : (out_of returning : Bool) → (if out_of && returning then None else Some OtherQueue) ≡ None → out_of ≡ true
     ended true returning none = refl
     ended false returning none = cc
-ended_of q at.Free ok = cc
-ended_of q (at.Walking course ticket walk) ok = cc
-ended_of q (at.Taken out) ok = cc
-ended_of q (at.Waits out waiting) ok = cc
-ended_of q (at.Lists out listing) ok = cc
-ended_of q (at.HasReply out reply) ok = cc
+ended_of q _ ok = cc
 
 holds_lock : (s : ThreadedQueue) (rest : Bool) → s.holder ≡ Walker → (not (is_free s.holder) || rest) ≡ true
 holds_lock s rest walker = rw walker refl

@@ -13,7 +13,7 @@ use Rattle.fs_queue.specs.declared.layout.QueueLayout.{QueueLayout}
 use Rattle.fs_queue.specs.declared.fault.ChainFault.{ChainFault}
 use Rattle.fs_queue.specs.declared.fault.QueueError.TheVariants.{AvailFlagsUnreachable, AvailIndexUnreachable, RingEntryUnreachable}
 use Rattle.fs_queue.specs.declared.fault.QueueError.TheVariants.{HeadOutOfTable, UsedUnreachable}
-use Rattle.fs_queue.specs.Chain.{Found, IsChain, HasFault, StopsQueue}
+use Rattle.fs_queue.specs.Chain.{Found, StopsQueue}
 use Rattle.fs_queue.specs.Queue.{Queue as Ring, avail_index_at, element_at, index_at, ring_entry_at}
 use Rattle.fs_queue.specs.NextAvail.{NextAvail, Idle, Head, Refused, next_avail}
 use Rattle.fs_queue.specs.Loads.{Load, holding, index_load, entry_load, asks_entry, is_whole, chain_exactly}
@@ -75,9 +75,8 @@ by_fetch h head None = tt
 by_fetch h head (Some x) = tt
 
 by_found : (m : Memory) (limit h head : ℕ) (bs : List ℕ) (f : Found) → Shows (IsBy (Head h)) (with_loaded bs (offer_of m limit head f))
-by_found m limit h head bs (IsChain ds) = by_fetch h head _
-by_found m limit h head bs (HasFault fault) = by_fetch h head _
 by_found m limit h head bs StopsQueue = on_request (IsBy (Head h)) bs _ tt
+by_found m limit h head bs _ = by_fetch h head _
 
 by_chain : (m : Memory) (limit h head : ℕ) (bs : List ℕ) (f : Option Found) →
     Shows (IsBy (Head h)) (option_and_then (λ f. with_loaded bs (offer_of m limit head f)) f)
@@ -123,13 +122,11 @@ ring_shows : (n : ℕ) (z far whole : Bool) (entry : Option (List ℕ)) (both w 
     else if not whole then None else Some both) ≡ Some w → WaitsBy w n
 ring_shows n true far whole entry both Idle is never e = eqb-true n 0 is
 ring_shows n true far whole None both (Head h) is never e = cc
-ring_shows n true far whole (Some bs) both (Head h) is never e = cc
 ring_shows n false true whole None both Idle is never e = cc
-ring_shows n false true whole (Some bs) both Idle is never e = cc
 ring_shows n false far whole entry both (Head h) is never e = some_ahead n is
-ring_shows n false false false entry both Idle is never e = cc
 ring_shows n false false true entry both Idle is never e = absurd (never refl refl refl (cc))
 ring_shows n z far whole entry both (Refused e) is never h = tt
+ring_shows n _ _ _ _ both _ is never e = cc
 
 entry_idle :
     (c far : Bool) (n : ℕ) → (if not c then Refused RingEntryUnreachable else if far then Refused HeadOutOfTable else Head n) ≡ Idle → ⊥
@@ -322,10 +319,7 @@ takes_by : (m end : Machine) (i : ℕ) (before after : QueueState) (loaded : Loa
     → IsModelOf before s → s.holder ≡ Walker → TakesSo before after loaded s
 takes_by m end i before after loaded ds (step.Chain head fault) s counted taken there e left is walker =
     takes_chain m end i before after loaded ds head fault s counted there e left is walker
-takes_by m end i before after loaded ds (step.Load walk) s counted taken there e left is walker = absurd taken
-takes_by m end i before after loaded ds step.Idle s counted taken there e left is walker = absurd taken
-takes_by m end i before after loaded ds (step.Refused why) s counted taken there e left is walker = absurd taken
-takes_by m end i before after loaded ds (step.Missing range access) s counted taken there e left is walker = absurd taken
+takes_by m end i before after loaded ds _ s counted taken there e left is walker = absurd taken
 
 pub takes : TakesByPop
 takes m i before after loaded new reported s counted taken there ends is walker =
@@ -339,12 +333,9 @@ IsIdle shows.Idle = Unit {0}
 IsIdle _ = ⊥
 
 idle_is : (ds : List Descriptor) (came : comes.CourseStep) → shows.Idle ≡ reported_of ds came → came ≡ step.Idle
-idle_is ds (step.Load walk) e = absurd (subst IsIdle e tt)
 idle_is ds step.Idle e = refl
-idle_is ds (step.Missing range access) e = absurd (subst IsIdle e tt)
-idle_is ds (step.Refused error) e = absurd (subst IsIdle e tt)
 idle_is ds (step.Chain h None) e = absurd (subst IsIdle e tt)
-idle_is ds (step.Chain h (Some fault)) e = absurd (subst IsIdle e tt)
+idle_is ds _ e = absurd (subst IsIdle e tt)
 
 same_index : (i p : ℕ) → i ≡ p → (i == p) ≡ true
 same_index i p is = grind (arith, nat_tests, is)

@@ -50,9 +50,7 @@ module _ (s : Machine) (i : ℕ) (q q' : QueueState) (p : Pop) (new : ChainHandl
   ends_of shows.Idle end is = ended shows.Idle end is
   ends_of (shows.Chain head n r) end is = ended (shows.Chain head n r) end is
   ends_of (shows.Faulty head why) end is = ended (shows.Faulty head why) end is
-  ends_of (shows.Load n) end is = absurd end
-  ends_of (shows.Missing range access) end is = absurd end
-  ends_of (shows.Refused e) end is = absurd end
+  ends_of _ end is = absurd end
 
 -- the loads of a call that ended a pop
 abbrev pub EndsAfter : Machine → (i : ℕ) → (q q' : QueueState) → Pop → (old new : ChainHandle) → (bytes : List ℕ) →

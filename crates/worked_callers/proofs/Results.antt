@@ -22,12 +22,7 @@ pub freed_back : (st : state.ChainState) (q : QueueState) (len : ℕ) (old mid n
     → return_error st q len ≡ None
     → IfHasReply st (λ out reply. mid ≡ record old { state = at.Pushing out }) → new ≡ freed mid → new ≡ freed old
 freed_back (at.HasReply out reply) q len old mid new is can pushing free = free ∙ ap freed pushing ∙ freed_of old out reply is
-freed_back at.Free q len old mid new is can pushing free = absurd (cc)
-freed_back (at.Walking course pop_id walk) q len old mid new is can pushing free = absurd (cc)
-freed_back (at.Taken out) q len old mid new is can pushing free = absurd (cc)
-freed_back (at.Waits out w) q len old mid new is can pushing free = absurd (cc)
-freed_back (at.Lists out l) q len old mid new is can pushing free = absurd (cc)
-freed_back (at.Pushing out) q len old mid new is can pushing free = absurd (cc)
+freed_back _ q len old mid new is can pushing free = absurd (cc)
 
 pub if_ok : {A E : Type 0} (r : Result A E) (P Q : A → Type 0) → ((a : A) → P a → Q a) → IfOk r P → IfOk r Q
 if_ok (Ok a) P Q more p = more a p
