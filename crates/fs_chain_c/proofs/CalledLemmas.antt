@@ -62,10 +62,9 @@ pub wishes_so : StoresAWish → (before after : Option ChainHandle) (q : FsQueue
     → AsksKicks before q 1 status reported after → q.next_avail < 2 ^ 16 → q.next_used < 2 ^ 16 → q.max_in_flight < 2 ^ 16
     → status ≡ 0 → WishesSo before q reported
 wishes_so law None None q reported status asks avail used few done = absurd (no_error error.WrongOrder (sym done ∙ asks.0))
-wishes_so law None (Some b') q reported status asks avail used few done = absurd asks
-wishes_so law (Some b) None q reported status asks avail used few done = absurd asks
 wishes_so law (Some b) (Some b') q reported status asks avail used few done =
     wishes_by law b q reported (subst (λ (n : ℕ). SetsNotification b q 1 reported n) done asks.0) avail used few
+wishes_so law _ _ q reported status asks avail used few done = absurd asks
 
 -- the driver's two bytes are its wish, as flags and as an event
 shows_so : (by_event : Bool) (bytes : List ℕ)
@@ -93,7 +92,6 @@ checks_by law b b' q q' seen notify (inr is) fits used =
 pub checks_so : NotifyIsACheck → (before now : Option ChainHandle) (q q' : FsQueue) (seen notify status : ℕ)
     → EndsPush before q seen status notify now q' → seen < 2 ^ 16 → q.next_used < 2 ^ 16 → status ≡ 0 → ChecksSo q seen notify
 checks_so law None None q q' seen notify status ends fits used done = absurd (no_error error.WrongOrder (sym done ∙ ends.0))
-checks_so law None (Some b') q q' seen notify status ends fits used done = absurd ends
-checks_so law (Some b) None q q' seen notify status ends fits used done = absurd ends
 checks_so law (Some b) (Some b') q q' seen notify status ends fits used done =
     checks_by law b b' q q' seen notify (subst (λ (n : ℕ). EndsHandlePush b q seen notify n b' q') done ends) fits used
+checks_so law _ _ q q' seen notify status ends fits used done = absurd ends

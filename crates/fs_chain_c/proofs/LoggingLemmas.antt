@@ -33,9 +33,8 @@ all_drop (suc n) P [] all = tt
 all_drop (suc n) P (x ∷ xs) all = all_drop n P xs all.1
 
 all_take : (n : ℕ) (P : ℕ → Type 0) (xs : List ℕ) → AllByRecursion P xs → AllByRecursion P (take n xs)
-all_take zero P xs all = tt
-all_take (suc n) P [] all = tt
 all_take (suc n) P (x ∷ xs) all = (all.0, all_take n P xs all.1)
+all_take _ P _ all = tt
 
 first_of_all : (a n : ℕ) (P : ℕ → Type 0) → 0 < n → AllByRecursion P (addresses a n) → P a
 unfolding addresses
@@ -131,12 +130,7 @@ pushed_there (at.HasReply out reply) k len s none by =
     out_is).1 in
     let same : at_return k out ≡ at_position k.layout k.next_used = sym (same_layout k.layout out.course.layout k.next_used laid) in
     (ap first_address by.1 ∙ ap element_at same, ap third_address by.1 ∙ ap index_at same)
-pushed_there at.Free k len s none by = absurd (cc)
-pushed_there (at.Walking course pop_id walk) k len s none by = absurd (cc)
-pushed_there (at.Taken out) k len s none by = absurd (cc)
-pushed_there (at.Waits out w) k len s none by = absurd (cc)
-pushed_there (at.Lists out l) k len s none by = absurd (cc)
-pushed_there (at.Pushing out) k len s none by = absurd (cc)
+pushed_there _ k len s none by = absurd (cc)
 
 pub pushes : PushReportsAddresses
 pushes b b' q q' front front' reported (inl none) = absurd (no_error error.BadArgument none.1)

@@ -31,10 +31,9 @@ some_between false true false h e = absurd (cc)
 some_between false false back h e = let no = h refl in absurd (cc)
 
 none_between : (down front back : Bool) → down ≡ false → back ≡ false → None ≡ between down front back
-none_between true front back d e = absurd (cc)
-none_between false true true d e = absurd (cc)
 none_between false true false d e = refl
 none_between false false back d e = refl
+none_between _ _ _ d e = absurd (cc)
 
 module _ (regions : List FsRegion) (are : All IsRegion regions) (i : ℕ) (from : 1 ≤ i) (within : i < length regions) where
   abbrev pub none : FsRegion
@@ -120,15 +119,7 @@ module _ (regions sorted : List FsRegion) (same : IsPermutation regions sorted) 
       let some = why.0 in
       inr (inr (omega (arith, some, len), sorted, why.1, same, up, why.2))
   none_of error.OutOfMemory why = memory_of why.0 why.1
-  none_of error.ShortBuffer why = why
-  none_of error.LongReply why = why
-  none_of error.WrongOrder why = why
-  none_of error.OtherQueue why = why
-  none_of error.OtherCall why = why
-  none_of error.OtherKind why = why
-  none_of error.ChainInFlight why = why
-  none_of error.Pushing why = why
-  none_of error.OtherTable why = why
+  none_of _ why = why
 
   -- a refusal of the regions in ascending order is one of those in any
   pub no_memory : (r : Result (List Region) ChainError) → IfErr r (IsNoSortedMemory sorted) → IfErr r (IsNoMemory regions)

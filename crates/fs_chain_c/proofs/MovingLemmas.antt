@@ -23,7 +23,7 @@ use Rattle.fs_chain_c.specs.declared.queue.FsQueue.{FsQueue}
 use Rattle.fs_chain_c.specs.Moving.{AreQueueStates, HasItsWidths, HasNoneInFlight, HasValidMaximum, MovesByRecord, RestoresARecord}
 use Rattle.fs_chain_c.specs.Moving.{SavesARecord, recorded}
 use Rattle.fs_chain_c.specs.Queues.{IsQueue, IsQueueState, stop_of}
-use Rattle.fs_chain_c.specs.Records.{HasNoneOut, Restored, HasRecord, NoDevice, TooFewQueues, UnfitQueues, NoRecord, ReadsSo}
+use Rattle.fs_chain_c.specs.Records.{HasNoneOut, Restored, HasRecord, TooFewQueues, NoRecord, ReadsSo}
 use Rattle.fs_chain_c.specs.Records.{RestoreOutcome, SavesSo}
 use Rattle.fs_chain_c.specs.Records.{bytes_of, numbers_over, queue_of, read_status, restored_over, saved_status}
 
@@ -74,11 +74,10 @@ recorded_is q k is =
 
 all_recorded : (qs : List FsQueue) (ks : List QueueState) → AreQueueStates qs ks → map queue_of qs ≡ map recorded ks
 all_recorded [] [] are = refl
-all_recorded [] (k ∷ ks) are = absurd are
-all_recorded (q ∷ qs) [] are = absurd are
 all_recorded (q ∷ qs) (k ∷ ks) are =
     ap (λ (x : Queue). x ∷ map queue_of qs) (recorded_is q k are.0)
     ∙ ap (λ (l : List Queue). recorded k ∷ l) (all_recorded qs ks are.1)
+all_recorded _ _ are = absurd are
 
 -- ---- saving
 
@@ -98,8 +97,6 @@ one_position p r fp fr none = omega arith
 all_even : (qs : List FsQueue) (ks : List QueueState) → AllByRecursion HasItsWidths qs → All HasNoneOut qs → AreQueueStates qs ks →
     AllByRecursion HasNoneInFlight ks
 all_even [] [] bits none are = tt
-all_even [] (k ∷ ks) bits none are = absurd are
-all_even (q ∷ qs) [] bits none are = absurd are
 all_even (q ∷ qs) (k ∷ ks) bits none are =
     let at = one_position q.next_avail q.next_used bits.0.1 bits.0.2 (All-head HasNoneOut q qs none) in (
       (
@@ -108,6 +105,7 @@ all_even (q ∷ qs) (k ∷ ks) bits none are =
       ),
       all_even qs ks bits.1 (All-tail HasNoneOut q qs none) are.1,
     )
+all_even _ _ bits none are = absurd are
 
 all_saved : (qs : List FsQueue) → All IsQueue qs → AllByRecursion HasItsWidths qs → All IsSavedQueue (map queue_of qs)
 all_saved [] are bits = All-nil IsSavedQueue
@@ -159,9 +157,8 @@ read_so : (d : FsDevice) (queues : List FsQueue) (saved : List ℕ) (how : Resto
     (queues' : List FsQueue) → 0 ≡ read_status how → ReadsSo d queues saved how count d' queues' → ReadSo d queues saved count d' queues'
 read_so d queues saved (Restored options qs) count d' queues' is so = (options, qs, so)
 read_so d queues saved (TooFewQueues options qs) count d' queues' is so = absurd (no_error error.ShortBuffer is)
-read_so d queues saved (UnfitQueues options qs) count d' queues' is so = absurd (no_error error.BadArgument is)
 read_so d queues saved (NoRecord e) count d' queues' is so = absurd (no_record (restore_error_number e) is)
-read_so d queues saved NoDevice count d' queues' is so = absurd (no_error error.BadArgument is)
+read_so d queues saved _ count d' queues' is so = absurd (no_error error.BadArgument is)
 
 flag_back : (b : Bool) → not ((if b then 1 else 0) == 0) ≡ b
 flag_back true = refl
@@ -185,9 +182,7 @@ GoOn ks qs = (map recorded ks ≡ qs) × AllByRecursion HasNoneInFlight ks × Al
 go_on : (olds : List FsQueue) (qs : List Queue) (ks : List QueueState) → length qs ≤ length olds → All IsSavedQueue qs
     → AreQueueStates (take (length qs) (restored_over olds qs)) ks → GoOn ks qs
 go_on olds [] [] few all are = (refl, tt, tt)
-go_on olds [] (k ∷ ks) few all are = absurd are
 go_on [] (q ∷ qs) ks few all are = absurd (none_left (length qs) few)
-go_on (old ∷ olds) (q ∷ qs) [] few all are = absurd are
 go_on (old ∷ olds) (q ∷ qs) (k ∷ ks) few all are =
     let one = are.0 in
     let low : q.position < 2 ^ 16 = (All-head IsSavedQueue q qs all).2 in
@@ -208,6 +203,7 @@ go_on (old ∷ olds) (q ∷ qs) (k ∷ ks) few all are =
         rest.2,
       ),
     )
+go_on _ _ _ few all are = absurd are
 
 pub restores : RestoresARecord
 restores d d' queues queues' ks saved count restored are =

@@ -38,16 +38,12 @@ no_numbers = record {
 lawful_tests : (size misaligned ends : Bool)
     → (if not size then Some BadSize else if misaligned then Some Misaligned else if ends then Some EndOverflow else None) ≡ None
     → (size ≡ true) × (ends ≡ false)
-lawful_tests false misaligned ends none = absurd (cc)
-lawful_tests true true ends none = absurd (cc)
-lawful_tests true false true none = absurd (cc)
 lawful_tests true false false none = (refl, refl)
+lawful_tests _ _ _ none = absurd (cc)
 
 none_of : (a b c : Bool) → (a || b || c) ≡ false → (a ≡ false) × (b ≡ false) × (c ≡ false)
 none_of false false false none = (refl, refl, refl)
-none_of true b c none = absurd (cc)
-none_of false true c none = absurd (cc)
-none_of false false true none = absurd (cc)
+none_of _ _ _ none = absurd (cc)
 
 some_power : (n : ℕ) → is_power_of_two n ≡ true → 0 < n
 some_power n is =

@@ -49,12 +49,11 @@ OneOf (Some op.Rename2 ∷ l) i m = (m ≡ i) ⊎ OneOf l (suc i) m
 OneOf (o ∷ l) i m = OneOf l (suc i) m
 
 one_of : (l : List (Option Opcode)) (n i : ℕ) → named (slice_get l n) ≡ Some op.Rename2 → OneOf l i (i + n)
-one_of [] n i is = absurd (cc)
 one_of (Some op.Rename2 ∷ l) zero i is = inl (omega arith)
 one_of (Some op.Rename2 ∷ l) (suc n) i is =
     let next : suc i + n ≡ i + suc n = omega arith in inr (subst (OneOf l (suc i)) next (one_of l n (suc i) is))
-one_of (o ∷ l) zero i is = absurd (cc)
 one_of (o ∷ l) (suc n) i is = let next : suc i + n ≡ i + suc n = omega arith in subst (OneOf l (suc i)) next (one_of l n (suc i) is)
+one_of _ _ i is = absurd (cc)
 
 only : (m : ℕ) → (m ≡ 45) ⊎ ⊥ → m ≡ 45
 only m (inl is) = is
