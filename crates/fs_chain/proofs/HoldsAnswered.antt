@@ -94,6 +94,7 @@ forgets s before behind c request options call x new (Some node) out preserved i
               small = is_out.small;
             },
             subst (λ (m : ServedMessage). KeepsReplyOf m.reply out preserved) (sym same) keeps,
+            tt,
           ),
       ap (λ (k : ℕ). (served (setting s.page_size options k) (meaning options request k) (x ∷ Done ∷ [])).calls) is_out.room_len
           ∙ ap (λ (m : ServedMessage). m.calls) same
@@ -177,7 +178,7 @@ by_state (at.Waits out w) was new a reported given waits can s before behind c r
           may_so = tt;
           state = refl;
         },
-        subst P (sym given.2) (now_out, keeps_served),
+        subst P (sym given.2) (now_out, keeps_served, tt),
         all,
         sym (ap (λ (x : ServedMessage). x.options) in_buffer ∙ by_options cs left given.0.sent bytes),
         subst (λ (st : state.ChainState). IsRepliedWith

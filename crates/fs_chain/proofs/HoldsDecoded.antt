@@ -146,6 +146,7 @@ known page_size options request c out preserved reply session given is_out same 
           small = is_out.small;
         },
         subst (λ (x : ServedMessage). KeepsReplyOf x.reply out reply) (sym serving) keeps,
+        ap (λ (k : ServedMessage). k.calls) serving ∙ no_calls,
       ),
     )
 

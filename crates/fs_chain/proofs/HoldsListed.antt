@@ -15,7 +15,7 @@ use Rattle.server_phases.specs.declared.listing.ListingReply.{ListingReply}
 use Rattle.plain_machine.specs.Step.{Calls, answers_alone, calls_alone}
 use Rattle.live_machine.specs.Live.{Abandoned, Asked, Fetched, InFlightChain, Own, Phase, PoppedFaulty, room_of, room_of_phase}
 use Rattle.live_machine.proofs.EachCall.{each_waits_first}
-use Rattle.fs_chain.specs.Holds.{IsDecodedIn, IsHeldIn, KeepsReplyOf, Machine, served_so}
+use Rattle.fs_chain.specs.Holds.{IsDecodedIn, IsHeldIn, IsPastFirstCall, KeepsReplyOf, Machine, served_so}
 use Rattle.fs_chain.specs.HoldsListings.{AddingIs, AddsEntry, BeginsListing, EndsListing, FailsListing, HasListed, HoldsListing, IsLeftOut}
 use Rattle.fs_chain.specs.HoldsListings.{LeavesOut}
 use Rattle.fs_chain.specs.HoldsListings.{ListingCallIs, LooksUp, MayEnd, MayFail, ReadsDirectory, calls_left_out}
@@ -105,6 +105,11 @@ adds_entry old new list list' e reported brings page_size c es calls h =
 
 -- ---- the end
 
+-- a request of whose calls none is pending is past its first one
+past_first : (calls : Calls) (given : ServedMessage) → given.calls ≡ calls_alone calls → IsPastFirstCall calls given
+past_first [] given all = all
+past_first (step ∷ calls) given all = tt
+
 -- a listing that is served so has its reply
 ended : (page_size : ℕ) (c : InFlightChain) (es : List Brought) (ending : Ending) (calls : Calls) (list : List ℕ) (old new : ChainHandle)
     (len : ℕ) (reply : ListingReply) (h : HoldsListing page_size c es calls list old)
@@ -138,7 +143,7 @@ ended page_size c es ending calls list old new len reply h is reported state_is 
     } in
     let in_phase : IsHeldIn page_size c (Asked h.request h.options calls) new.state new.session =
     subst (λ (st : state.ChainState). IsHeldIn page_size c (Asked h.request h.options calls) st new.session) (sym state_is)
-    (h.is_out, keeps) in
+    (h.is_out, keeps, past_first calls (served s m (answers_alone calls)) all_calls) in
     record {
       holds = subst (λ (p : Phase). IsHeldIn page_size c p new.state new.session) (sym h.phase) in_phase;
       preserved = preserved;

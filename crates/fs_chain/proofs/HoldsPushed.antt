@@ -48,7 +48,7 @@ replies page_size c (Asked request options calls) x out preserved session is hel
     ap (λ (k : Phase). length (room_of_phase k c.descriptors)) is ∙ held.0.room_len in
     let same : x.reply ≡ (served_so page_size options request out.room_len calls).reply =
     ap (λ (k : Exchange). k.reply) proceeds.1 ∙ ap (λ (n : ℕ). (served_so page_size options request n calls).reply) room in
-    (held.0, subst (λ (r : List ℕ). KeepsReplyOf r out preserved) (sym same) held.1, held.0)
+    (held.0, subst (λ (r : List ℕ). KeepsReplyOf r out preserved) (sym same) held.1, (held.0, held.2))
 replies page_size c p x out preserved session is held proceeds = absurd held
 
 -- where the two bytes stand that are seen

@@ -90,6 +90,12 @@ abbrev pub served_so : (page_size options : ℕ) → (request : List ℕ) → (r
 served_so page_size options request room calls =
     served (setting page_size options room) (meaning options request room) (answers_alone calls)
 
+-- the first file call of a request is answered, or the request has none. The FORGET of an entry whose reply
+-- doesn't fit may still be owed
+abbrev pub IsPastFirstCall : Calls → ServedMessage → Type 0
+IsPastFirstCall [] given = given.calls ≡ []
+IsPastFirstCall (step ∷ calls) given = Unit {0}
+
 -- the handle keeps this reply: its front, and how many bytes are behind it
 pub record KeepsReplyOf (reply : List ℕ) (out : InFlight) (preserved : ChainReply) : Type 0 where
   pub behind : List ℕ
@@ -128,8 +134,11 @@ IsHeldIn page_size c (Asked request options calls) (at.Lists out listing) sessio
     (drop 80 request) made
     listing
 IsHeldIn page_size c (Asked request options calls) (at.HasReply out preserved) session =
-    IsOutAs c out × KeepsReplyOf (served_so page_size options request out.room_len calls).reply out preserved
-IsHeldIn page_size c (Asked request options calls) (at.Pushing out) session = IsOutAs c out
+    IsOutAs c out
+    × KeepsReplyOf (served_so page_size options request out.room_len calls).reply out preserved
+    × IsPastFirstCall calls (served_so page_size options request out.room_len calls)
+IsHeldIn page_size c (Asked request options calls) (at.Pushing out) session =
+    IsOutAs c out × IsPastFirstCall calls (served_so page_size options request out.room_len calls)
 IsHeldIn page_size c phase st session = ⊥
 
 abbrev pub HoldsChain : (page_size : ℕ) → InFlightChain → ChainHandle → Type 0
