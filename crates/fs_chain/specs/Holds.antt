@@ -32,7 +32,7 @@ use Rattle.server_phases.specs.declared.session.Session.{Session}
 use Rattle.plain_machine.specs.Step.{Calls, Exchange, answers_alone, calls_alone}
 pub use Rattle.live_machine.specs.Files.{any_files}
 use Rattle.live_machine.specs.Several.{LiveQueue, event_miss_of, returning, seen_at}
-use Rattle.live_machine.specs.Live.{Asked, DecodesRequest, EndsPop, Fetched, GivesUpChain, Happens}
+use Rattle.live_machine.specs.Live.{Asked, DecodesRequest, EndsPopSo, Fetched, GivesUpChain, Happens}
 use Rattle.live_machine.specs.Live.{InFlightChain}
 use Rattle.live_machine.specs.Live.{IsUnreplied, RepliesOwnBytes, after_giving_up, after_own}
 use Rattle.live_machine.specs.Live.{LiveState, LoadsAreMapped, Own, Phase, PoppedFaulty, PushedWith}
@@ -332,12 +332,12 @@ HasPopped s i q loaded (step.Chain head fault) w =
     HoldsChain s.page_size (new_chain s i q loaded w.descriptors.items head fault) w
 HasPopped s i q loaded _ w = w.state ≡ at.Free
 
--- a pop ended by itself: the event `EndsPop`
+-- a pop ended by itself: the event `EndsPop`, by what it is alone
 pub record EndsBy (s : Machine) (i : ℕ) (q q' : QueueState) (loaded : Loaded) (new : ChainHandle)
     (reported : walked.PopOutcome) : Type 0 where
   pub came : comes.CourseStep
   pub reported_is : reported ≡ reported_of new.descriptors.items came
-  pub happens : Happens any_files s (EndsPop i loaded new.descriptors.items came)
+  pub happens : EndsPopSo s i loaded new.descriptors.items came
       (after_pop s i (live_of q) loaded new.descriptors.items came)
   pub queue : IsQueue (after_pop s i (live_of q) loaded new.descriptors.items came) i q'
   pub has : HasPopped s i (live_of q) loaded came new
