@@ -113,7 +113,7 @@ fn root_attr() -> Attr {
 
 /// The root's entries from number `at` on.
 #[derive(Drop)]
-pub(crate) struct RootEntries {
+pub struct RootEntries {
     at: u64,
 }
 
@@ -146,7 +146,7 @@ impl DirectoryIterator for RootEntries {
 /// The root, node 1, with the file `a`, node 2. The calls that it implements itself are logged: INIT, LOOKUP,
 /// FORGET, GETATTR, READ, WRITE and READDIR.
 #[derive(Drop)]
-pub(crate) struct LoggingFiles<'a> {
+pub struct LoggingFiles<'a> {
     log: &'a Cell<FirstCalls>,
     contents: SmallFile,
 }

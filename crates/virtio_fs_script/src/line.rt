@@ -10,7 +10,7 @@ use vm_memory_core::Permissions;
 
 /// A queue's size, and the addresses of its three areas, as a line gives them: not yet checked.
 #[derive(Clone, Copy)]
-pub(crate) struct AskedLayout {
+pub struct AskedLayout {
     pub size: u16,
     pub desc: u64,
     pub avail: u64,
@@ -26,7 +26,7 @@ impl AskedLayout {
 
 /// A command of the script.
 #[derive(Drop)]
-pub(crate) enum Line {
+pub enum Line {
     /// Adds a queue.
     Queue(AskedLayout),
     /// Adds a region of guest memory over a new block.
@@ -267,7 +267,7 @@ fn parse_words(
 
 /// The command of a line, or the reason that it is none, and the word that is wrong. AllocError if an
 /// allocation fails.
-pub(crate) fn parse(
+pub fn parse(
     alloc: Global,
     line: &[u8],
 ) -> Result<Result<Line, (WrongLine, WrongWord)>, AllocError> {

@@ -20,25 +20,22 @@ fn print_line<W: Write>(writer: &mut W, word: &[u8], numbers: &[u64]) -> io::Res
 }
 
 /// `ok`: a command was done that has no other output.
-pub(crate) fn print_ok<W: Write>(writer: &mut W) -> io::Result<()> {
+pub fn print_ok<W: Write>(writer: &mut W) -> io::Result<()> {
     writer.write_all(b"ok\n")
 }
 
 /// `badlayout`, and the number of the layout's error.
-pub(crate) fn print_bad_layout<W: Write>(
-    writer: &mut W,
-    error: QueueLayoutError,
-) -> io::Result<()> {
+pub fn print_bad_layout<W: Write>(writer: &mut W, error: QueueLayoutError) -> io::Result<()> {
     print_line(writer, b"badlayout", &[u64::from(error.number())])
 }
 
 /// `moved`, and the length of the device's record in bytes.
-pub(crate) fn print_moved<W: Write>(writer: &mut W, record_len: usize) -> io::Result<()> {
+pub fn print_moved<W: Write>(writer: &mut W, record_len: usize) -> io::Result<()> {
     print_line(writer, b"moved", &[record_len as u64])
 }
 
 /// `refused`, and the number of the refusal.
-pub(crate) fn print_refused<W: Write>(writer: &mut W, number: u8) -> io::Result<()> {
+pub fn print_refused<W: Write>(writer: &mut W, number: u8) -> io::Result<()> {
     print_line(writer, b"refused", &[u64::from(number)])
 }
 
@@ -159,7 +156,7 @@ fn print_run<W: Write>(writer: &mut W, run: &QueueRun) -> io::Result<()> {
 }
 
 /// The answer to a command of the machine.
-pub(crate) fn print_answer<W: Write>(writer: &mut W, answer: &Answer) -> io::Result<()> {
+pub fn print_answer<W: Write>(writer: &mut W, answer: &Answer) -> io::Result<()> {
     match answer {
         Answer::Done => print_ok(writer),
         Answer::Bytes(bytes) => print_bytes(writer, bytes),
@@ -172,7 +169,7 @@ pub(crate) fn print_answer<W: Write>(writer: &mut W, answer: &Answer) -> io::Res
 }
 
 /// `idle`: no request was available.
-pub(crate) fn print_idle<W: Write>(writer: &mut W) -> io::Result<()> {
+pub fn print_idle<W: Write>(writer: &mut W) -> io::Result<()> {
     writer.write_all(b"idle\n")
 }
 

@@ -16,8 +16,8 @@ const BUFFER: usize = 4096;
 // The exit status if the program is called with arguments.
 const USAGE_STATUS: u8 = 1;
 
-// The whole script. TooLong if it has more than `MOST_SCRIPT_BYTES`.
-fn read_script<R: Read>(alloc: Global, reader: &mut R) -> Result<Vec<u8>, Halt> {
+/// The whole script. TooLong if it has more than 1 MiB.
+pub fn read_script<R: Read>(alloc: Global, reader: &mut R) -> Result<Vec<u8>, Halt> {
     let mut script = Vec::new(alloc);
     let mut buffer = [0u8; BUFFER];
     for _ in 0..=MOST_SCRIPT_BYTES {
