@@ -1,6 +1,6 @@
 -- What is left of a room by the window where it begins.
 use Rattle.std.proofs.Common.{◌≡◌, ℕ, zero, suc, ◌+◌, ◌-◌, ◌<◌, ◌≤◌, List, [], ◌∷◌, ◌++◌, length, map, sum, take, drop, refl, sym, ap, ◌∙◌}
-use Rattle.std.proofs.Common.{arith, length-append, Ok, Err, true, false, Bool, min, subst, get_or, ⊎_elim}
+use Rattle.std.proofs.Common.{arith, length-append, Ok, Err, true, Bool, min, subst, get_or, ⊎_elim}
 use Rattle.std.specs.Prelude.{◌^◌, Option, nat_le, nat_lt, if◌then◌else◌}
 use Rattle.std.proofs.lemmas.Bool.{cases_lt}
 use Rattle.std.proofs.lemmas.List.{drop-drop, drop-append-le, drop_all, drop_at, length-drop, take-append-le}

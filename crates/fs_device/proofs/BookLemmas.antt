@@ -8,15 +8,13 @@ use Rattle.fuse_wire.specs.declared.opcodes.Opcode.{Opcode}
 use Rattle.fuse_wire.specs.declared.opcodes.Opcode.TheVariants as op
 use Rattle.fuse_fs.specs.Calls.{FileCall, FileAnswer, Listed, FileRun, suits, kind_of}
 use Rattle.fuse_fs.specs.Calls as call
-use Rattle.server_segments.specs.declared.error.Error.{Error}
 use Rattle.server_segments.specs.declared.error.Error.TheVariants.{EncodeMessage}
 use Rattle.server_replies.specs.WholeReplies.{error_bytes, listing_bytes}
 use Rattle.server_calls.specs.Requests.{options_after, forget_entry}
 use Rattle.fs_queue.specs.declared.fault.ChainFault.{ChainFault}
 use Rattle.fs_queue.specs.Queue.{Queue}
-use Rattle.fs_queue.specs.Taking.{Offer, IsRequest, CannotFetch, Refuses, Offers}
-use Rattle.fs_queue.specs.Taking as taking
-use Rattle.virtiofsd_fuse.specs.Grammar.{Meaning, IsFault, Replies, IsSilent, One, Starts, Lists, meaning}
+use Rattle.fs_queue.specs.Taking.{Offer, IsRequest, CannotFetch, Offers}
+use Rattle.virtiofsd_fuse.specs.Grammar.{Meaning, Replies, One, Starts, Lists, meaning}
 use Rattle.virtiofsd_fuse.specs.Grammar as grammar
 use Rattle.virtiofsd_fuse.specs.Listings.{ListRequest, list_entries, readdir_call}
 use Rattle.virtiofsd_fuse.specs.Serving.{May, ServedMessage, Setting, setting, served, no_reply, answer_bytes, start_options}

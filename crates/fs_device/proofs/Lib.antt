@@ -14,7 +14,7 @@ pub mod MeaningLemmas
 pub mod ListBooks
 pub mod GivenBack
 pub mod BookLemmas
-pub mod TellingLemmas
+pub mod ReportingLemmas
 pub mod MarkLemmas
 pub mod MarkedRuns
 pub mod MoveLemmas

@@ -9,7 +9,7 @@ use Rattle.fuse_fs.specs.declared.answers.Context.{Context}
 use Rattle.fuse_fs.specs.declared.answers.Entry.{Entry}
 use Rattle.fuse_fs.specs.Calls.{FileCall, FileAnswer, Listed, suits}
 use Rattle.fuse_fs.specs.Calls as call
-use Rattle.server_replies.specs.Entries.{Fit, FitsIn, IsFull, IsWrong, fit_of, entry_len, entry_bytes, no_node, is_dot}
+use Rattle.server_replies.specs.Entries.{Fit, FitsIn, fit_of, entry_len, entry_bytes, no_node, is_dot}
 use Rattle.virtiofsd_fuse.specs.Listings.{ListRequest, ListingResult, Next, placed, forget_lookup, with_entry, after_call, looked_up}
 use Rattle.virtiofsd_fuse.specs.Listings.{list_entry, list_entries}
 use Rattle.plain_machine.specs.Step.{Calls, EachSuits, calls_alone, answers_alone}

@@ -1,5 +1,5 @@
 -- the table of a machine's device, and what its host holds besides
-use Rattle.std.proofs.Common.{◌≡◌, ℕ, zero, suc, Bool, true, false, ◌+◌, ◌<◌, ◌≤◌, ◌^◌, ◌&&◌, nat_lt, List, [], ◌∷◌, length, ap, sym, ◌∙◌}
+use Rattle.std.proofs.Common.{◌≡◌, ℕ, suc, Bool, true, false, ◌+◌, ◌<◌, ◌≤◌, ◌^◌, ◌&&◌, nat_lt, List, [], ◌∷◌, length, ap, sym, ◌∙◌}
 use Rattle.std.proofs.Common.{refl, arith, subst, inl, inr}
 use Rattle.std.specs.Prelude.{◌⊎◌, Result, Ok, Err, replicate, slice_get, slice_set, unwrap_or}
 use Rattle.std.specs.Result.{IfOk, OnErr}

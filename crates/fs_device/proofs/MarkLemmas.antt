@@ -17,7 +17,7 @@ use Rattle.fs_queue.specs.declared.fault.QueueError.TheVariants as stop
 use Rattle.fs_queue.specs.Queue.{Queue, has_bit, avail_index_at, ring_entry_at, element_at, index_at}
 use Rattle.fs_queue.specs.NextAvail.{NextAvail, next_avail}
 use Rattle.fs_queue.specs.NextAvail as avail
-use Rattle.fs_queue.specs.Chain.{Descriptor, Visit, WalkStep, Faulty, Stops, Found, IsChain, HasFault, StopsQueue, descriptor_at}
+use Rattle.fs_queue.specs.Chain.{Descriptor, Visit, WalkStep, Faulty, Stops, Found, IsChain, descriptor_at}
 use Rattle.fs_queue.specs.Chain.{is_indirect, indirect_step, ordinary_step, walk_step}
 use Rattle.fs_queue.specs.Chain.{next_visit, onward, path, first_visit, walk, found, after_walk_step, chain}
 use Rattle.fs_queue.specs.Taking.{readable, writable, total_len, all_reach, RequestAndRoom, IsRequest, CannotFetch, request_and_room, Offer}

@@ -1,7 +1,7 @@
 -- runs from states that differ in marks alone
 use Rattle.std.proofs.Common.{◌≡◌, ℕ, zero, suc, Bool, true, false, List, [], ◌∷◌, map, length, zip, Option, Some, None, refl, ap, sym, ◌∙◌}
 use Rattle.std.proofs.Common.{subst}
-use Rattle.std.specs.Prelude.{◌+◌, ◌*◌, ◌==◌, ◌&&◌, IsTrue, if◌then◌else◌, slice_get, option_map, unwrap_or, nat_lt, not}
+use Rattle.std.specs.Prelude.{◌+◌, ◌==◌, ◌&&◌, IsTrue, if◌then◌else◌, slice_get, option_map, unwrap_or, nat_lt, not}
 use Rattle.std.specs.List.{list_all, list_any}
 use Rattle.std.proofs.lemmas.List.{length-map, map-append}
 use Rattle.std.proofs.lemmas.Option.{slice_get-map}
@@ -17,8 +17,7 @@ use Rattle.vm_memory.specs.Memory.{Memory, addresses, reach, physical, table_in,
 use Rattle.fs_queue.specs.declared.fault.QueueError.TheVariants as stop
 use Rattle.fs_queue.specs.Queue.{Queue, fresh}
 use Rattle.fs_queue.specs.Returning.{writes}
-use Rattle.fs_queue.specs.Taking.{Offer, IsRequest, CannotFetch, Refuses, Offers, offer, after_refusal}
-use Rattle.fs_queue.specs.Taking as taking
+use Rattle.fs_queue.specs.Taking.{Offer, IsRequest, CannotFetch, Offers, offer, after_refusal}
 use Rattle.virtiofsd_fuse.specs.Serving.{May}
 use Rattle.plain_machine.specs.declared.error.DeviceError.{DeviceError}
 use Rattle.plain_machine.specs.declared.error.DeviceError.TheVariants as device
@@ -100,8 +99,7 @@ module _ {F : Type 0} (may : May F) (s : State F) (h : Host) (same : without_mar
         },
         return_alike s h same i q room expected r.given.options x notice after r.returns,
       )
-  exchange_alike i q taking.Idle calls x notice after r = absurd r
-  exchange_alike i q (Refuses e) calls x notice after r = absurd r
+  exchange_alike i q _ calls x notice after r = absurd r
 
   act_alike : (i : ℕ) (q : Queue) (o : Offer) (calls : Calls) (outcome : StepEnd) (after : State F) → Acts may s i q o calls outcome after →
       Matched (λ end. Acts may (with_host s h) i q o calls outcome end) after

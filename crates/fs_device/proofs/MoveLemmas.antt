@@ -1,12 +1,10 @@
 -- an image tracks the machine through a run
 use Rattle.std.proofs.Common.{◌≡◌, ℕ, zero, suc, Bool, true, false, List, [], ◌∷◌, ◌++◌, length, Option, Some, None, refl, ap, sym, ◌∙◌}
 use Rattle.std.proofs.Common.{subst, append-nil}
-use Rattle.std.specs.Prelude.{if◌then◌else◌, slice_get, not, IfSome, IsTrue}
+use Rattle.std.specs.Prelude.{if◌then◌else◌, slice_get, not, IsTrue}
 use Rattle.std.specs.List.{AllByRecursion, list_any, list_all, zip}
-use Rattle.std.specs.Option.{option_or}
 use Rattle.std.proofs.lemmas.Grind.{flat_map-append}
 use Rattle.vm_iotlb.specs.declared.permissions.Permissions.TheVariants.{Read, Write}
-use Rattle.vm_iotlb.specs.Table.{is_within}
 use Rattle.vm_memory_core.specs.Host.{Host, Block, Place, cleared, lengths}
 use Rattle.vm_memory.specs.Layout.{Region, fits, overlap, is_region, place}
 use Rattle.vm_memory.specs.Memory.{Memory, addresses, for_io, location, physical, place_behind, reach, stored, stored_all, stored_at}

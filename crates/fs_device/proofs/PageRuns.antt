@@ -18,11 +18,11 @@ use Rattle.plain_machine.specs.declared.error.DeviceError.{DeviceError}
 use Rattle.plain_machine.specs.declared.refusal.Refusal.TheVariants as why
 use Rattle.plain_machine.specs.Step.{State}
 use Rattle.plain_machine.specs.Run as run
-use Rattle.plain_machine.specs.Run.{Turns, Command, Answer, Effect, ChangesTable, KickEnds, KickRun, Kicks, KickAnswer, HasEffect, Does}
-use Rattle.plain_machine.specs.Run.{Performs, Affects, effect, insert}
+use Rattle.plain_machine.specs.Run.{Turns, Command, Answer, Effect, ChangesTable, KickRun, Kicks, KickAnswer, HasEffect, Does}
+use Rattle.plain_machine.specs.Run.{Affects, effect}
 use Rattle.plain_machine.specs.Run.{insert_block, is_known, some_overlap, reset}
 use Rattle.plain_machine.specs.MarkedPages.{Marks, KickWrites, ClearsMarks, KeepsMarks, DoneMarks, AnswerMarks, CommandsMark}
-use Rattle.fs_device.proofs.TellingLemmas.{end_keeps}
+use Rattle.fs_device.proofs.ReportingLemmas.{end_keeps}
 use Rattle.plain_machine.proofs.UsedLemmas.{exchange_returns, step_offers}
 use Rattle.plain_machine.proofs.PageLemmas.{marks_join, none_written, ways, ways_stay, writes_mark}
 

@@ -7,7 +7,7 @@ pub mod CommandView
 pub mod OneProof
 pub mod MachineView
 pub mod Books
-pub mod Telling
+pub mod Reporting
 pub mod Laws
 pub mod Marks
 pub mod Moving

@@ -8,7 +8,7 @@ ghost use Rattle.plain_machine.specs.MarkedPages.{CommandsMark, StepsMark, Write
 ghost use Rattle.fs_device.specs.Moving.{CanMoveAgain, HasItsMarks, ImageCatchesUp, MovedIsLast};
 ghost use Rattle.fs_device.specs.Moving.{PagesHavePlaces, StaleIsMarked};
 ghost use Rattle.plain_machine.specs.StepBy.{StepByIsStep, StepIsStepBy, StoresOnlyThere};
-ghost use Rattle.fs_device.specs.Telling.{CallsAreReported};
+ghost use Rattle.fs_device.specs.Reporting.{CallsAreReported};
 ghost use Rattle.plain_machine.specs.UsedLength.{LengthsAreReported};
 
 use fuse_fs::FileSystem;

@@ -38,9 +38,7 @@ mark_twice : (c d : Bool) (l : List Bool) (i j : ℕ) →
     (let m : List Bool = if c then set l i true else l in if d then set m j true else m)
     ≡ (let m : List Bool = if d then set l j true else l in if c then set m i true else m)
 mark_twice true true l i j = set_twice l i j true
-mark_twice true false l i j = refl
-mark_twice false true l i j = refl
-mark_twice false false l i j = refl
+mark_twice _ _ l i j = refl
 
 -- what a byte does to its block
 abbrev in_block : Place → ℕ → Block → Block
@@ -67,12 +65,10 @@ put_is h p x None e =
 put_is h p x (Some a) e = rw e refl
 
 sets_comm : (s t : Option IoAddress) (l : List (List Bool)) → in_sets t (in_sets s l) ≡ in_sets s (in_sets t l)
-sets_comm None None l = refl
-sets_comm None (Some b) l = refl
-sets_comm (Some a) None l = refl
 sets_comm (Some a) (Some b) l =
     changed_comm l a.set b.set (λ marks. marked_at 4096 marks a.address) (λ marks. marked_at 4096 marks b.address)
     (λ e m. mark_twice (nat_lt a.address (2 ^ 64)) (nat_lt b.address (2 ^ 64)) m (a.address / 4096) (b.address / 4096))
+sets_comm _ _ l = refl
 
 blocks_comm :
     (p q : Place) (x y : ℕ) → Differ p q → p.block ≡ q.block → (b : Block) → in_block q y (in_block p x b) ≡ in_block p x (in_block q y b)

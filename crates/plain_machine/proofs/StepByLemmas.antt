@@ -13,7 +13,7 @@ use Rattle.vm_memory.proofs.Places.{stored_all-append}
 use Rattle.fs_queue.specs.declared.fault.QueueError.{QueueError}
 use Rattle.fs_queue.specs.declared.fault.QueueError.TheVariants as stop
 use Rattle.fs_queue.specs.Queue.{Queue, element_at, index_at}
-use Rattle.fs_queue.specs.Taking.{IsRequest, CannotFetch, Offer, Offers, offer, may_lack_memory, after_refusal}
+use Rattle.fs_queue.specs.Taking.{IsRequest, CannotFetch, Offer, Offers, offer, after_refusal}
 use Rattle.fs_queue.specs.OfferLoads.{HasLoads}
 use Rattle.fs_queue.proofs.OfferByLemmas.{offer_is_still, offer_finds}
 use Rattle.fs_queue.proofs.ReadLemmas.{length-bytes}

@@ -1,6 +1,6 @@
 -- Worked steps by loads and stores: a request with an unknown opcode, in a chain with a reply buffer of
 -- 16 bytes.
-use Rattle.std.specs.Prelude.{◌≡◌, ℕ, true, List, [], ◌∷◌, ◌++◌, Option, Some, None, refl}
+use Rattle.std.specs.Prelude.{◌≡◌, ℕ, true, List, [], ◌∷◌, Some, None, refl}
 use Rattle.std.proofs.Common.{inl}
 use Rattle.vm_memory.specs.Layout.{place}
 use Rattle.vm_memory.specs.Memory.{addresses, stored_all}
@@ -9,7 +9,7 @@ use Rattle.fs_queue.specs.declared.fault.QueueError.TheVariants as queue_error
 use Rattle.fs_queue.specs.Taking.{Idle, Offers, Refuses, IsRequest, CannotFetch}
 use Rattle.fs_queue.specs.Loads.{Load, found_exactly}
 use Rattle.fs_queue.specs.Queue.{with_stop}
-use Rattle.fs_queue.specs.Returning.{Store, advanced}
+use Rattle.fs_queue.specs.Returning.{advanced}
 use Rattle.server_replies.specs.WholeReplies.{error_bytes}
 use Rattle.virtiofsd_fuse.specs.Examples.{le16, le32}
 use Rattle.vm_values.specs.Fields as fields

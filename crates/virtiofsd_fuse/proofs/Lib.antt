@@ -1,3 +1,4 @@
+pub mod EachMeaning
 pub mod ForgetLemmas
 pub mod Left
 pub mod ListingLemmas

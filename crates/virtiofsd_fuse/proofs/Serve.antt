@@ -3,9 +3,8 @@ use Rattle.std.proofs.Common.{◌≡◌, ◌≤◌, ℕ, Bool, true, false, List
 use Rattle.std.proofs.Common.{cond, arith, subst}
 use Rattle.std.proofs.lemmas.Bool.Decides.{nat_tests}
 use Rattle.std.specs.Prelude.{IsTrue, OnOk, nat_lt, ◌-◌, Option}
-use Rattle.fuse_fs.specs.Calls.{FileCall, FileAnswer, FileRun, suits, Init, Listed, Failed, Done, HasEntry, HasAttr, Opened, Created, Bytes}
-use Rattle.fuse_fs.specs.Calls.{Count, Stats, Wrote, Offset, Entries}
-use Rattle.fuse_fs.specs.Calls.{Wants}
+use Rattle.fuse_fs.specs.Calls.{FileCall, FileAnswer, FileRun, suits, Init, Listed, Failed}
+use Rattle.fuse_fs.specs.Calls.{Entries}
 use Rattle.server_requests.specs.Reading.{ReadFailure, Faults, Parsed, Parser, and_then, value_of, within}
 use Rattle.virtiofsd_fuse.specs.Grammar.{Meaning, IsFault, Replies, IsSilent, Asks, One, Starts, refused, ended, Lists}
 use Rattle.server_replies.specs.WholeReplies.{error_bytes, with_written, whole_or_none, listing_bytes}
@@ -232,32 +231,18 @@ list_fits : (s : Setting) (unique : ℕ) (l : ListRequest) (answer : FileAnswer)
     length (list_answered s unique l answer answers).reply ≤ s.room
 list_fits s unique l (Entries ds) answers = replied_fits s.room _ s.options _
 list_fits s unique l (Failed errno) answers = replied_fits s.room _ s.options _
-list_fits s unique l Done answers = omega arith
-list_fits s unique l (HasEntry e) answers = omega arith
-list_fits s unique l (HasAttr attr timeout) answers = omega arith
-list_fits s unique l (Opened handle options) answers = omega arith
-list_fits s unique l (Created e handle options) answers = omega arith
-list_fits s unique l (Bytes bytes) answers = omega arith
-list_fits s unique l (Count n) answers = omega arith
-list_fits s unique l (Stats st) answers = omega arith
-list_fits s unique l (Wrote n) answers = omega arith
-list_fits s unique l (Offset n) answers = omega arith
-list_fits s unique l (Wants options) answers = omega arith
+list_fits s unique l _ answers = omega arith
 
 -- no reply is longer than the room
 pub served_fits : (s : Setting) (m : Meaning) (answers : List FileAnswer) → length (served s m answers).reply ≤ s.room
-served_fits s (IsFault fault) answers = omega arith
 served_fits s (Replies bytes) answers = replied_fits s.room [] s.options bytes
-served_fits s IsSilent answers = omega arith
-served_fits s (Asks (One unique call)) [] = omega arith
 served_fits s (Asks (One unique call)) (answer ∷ answers) =
     replied_fits s.room _ (options_after s.options call) (answer_bytes unique call answer)
-served_fits s (Asks (Starts unique capable readahead)) [] = omega arith
 served_fits s (Asks (Starts unique capable readahead)) (answer ∷ answers) =
     replied_fits s.room (Init capable ∷ []) (start_options s.options capable answer)
     (start_answered s.page_size unique capable readahead answer)
-served_fits s (Asks (Lists unique l)) [] = omega arith
 served_fits s (Asks (Lists unique l)) (answer ∷ answers) = list_fits s unique l answer answers
+served_fits s _ _ = omega arith
 
 pub handles_fits :
     {F : Type 0} (may : F → FileCall → FileAnswer → F → Type 0) (s : Setting) (m : Meaning) (before : F) (result : Result ℕ Error)

@@ -1,4 +1,4 @@
-use Rattle.fs_device.proofs.TellingLemmas.{run_reports}
+use Rattle.fs_device.proofs.ReportingLemmas.{run_reports}
 use Rattle.fs_device.proofs.laws.law_calls.Goals as goal
 
 pub returns : goal.returns

@@ -1,4 +1,4 @@
-use Rattle.std.proofs.Common.{◌≡◌, Ok, ◌+◌, ◌-◌, ◌≤◌, length, subst, refl, sym, ap, ◌∙◌, arith}
+use Rattle.std.proofs.Common.{◌≡◌, Ok, ◌+◌, ◌-◌, length, subst, refl, sym, ap, ◌∙◌, arith}
 use Rattle.fuse_fs.specs.Answers.{data_answer}
 use Rattle.server_calls.specs.Requests.{read_call}
 use Rattle.virtiofsd_fuse.specs.Serving.{setting}

@@ -1,4 +1,4 @@
--- the file calls of a told run
+-- the file calls of a run
 use Rattle.std.proofs.Common.{◌≡◌, ℕ, zero, suc, Bool, true, false, List, [], ◌∷◌, ◌++◌, map, length, Option, Some, None, refl, ap, sym}
 use Rattle.std.proofs.Common.{◌∙◌, subst}
 use Rattle.std.specs.Prelude.{if◌then◌else◌, slice_get, not, IfSome, ◌==◌}
@@ -10,8 +10,7 @@ use Rattle.vm_memory.specs.Layout.{Region, fits, overlap, is_region}
 use Rattle.vm_memory.specs.Memory.{Memory, reach, physical}
 use Rattle.fs_queue.specs.declared.fault.QueueError.TheVariants as stop
 use Rattle.fs_queue.specs.Queue.{Queue, fresh}
-use Rattle.fs_queue.specs.Taking.{Offer, IsRequest, CannotFetch, Refuses, Offers}
-use Rattle.fs_queue.specs.Taking as taking
+use Rattle.fs_queue.specs.Taking.{Offer, IsRequest, CannotFetch, Offers}
 use Rattle.fuse_fs.specs.Calls.{FileCall, FileAnswer, FileRun}
 use Rattle.server_segments.specs.declared.error.Error.{Error}
 use Rattle.virtiofsd_fuse.specs.Grammar.{meaning}
@@ -25,9 +24,9 @@ use Rattle.plain_machine.specs.Run as run
 use Rattle.plain_machine.specs.Run.{Turn, Turns, Command, Answer, Effect, KickEnds, KickRun, Kicks, KickAnswer, Affects, ChangesTable}
 use Rattle.plain_machine.specs.Run.{HasEffect, Does, IsDecided, Performs}
 use Rattle.plain_machine.specs.Run.{RunReported, effect, insert, insert_block, is_known, some_overlap, reset}
-use Rattle.fs_device.specs.Telling.{calls_of, calls_reported, IsMeant, IsServedBy, IsServed}
+use Rattle.fs_device.specs.Reporting.{calls_of, calls_reported, IsMeant, IsServedBy, IsServed}
 
--- what exchanges tell: their calls lead from one state of the file system to another
+-- exchanges that report their calls: these lead from one state of the file system to another
 abbrev Reports : {F : Type 0} → May F → F → Turns → F → Type 0
 Reports may before reported after = FileRun may before (calls_of reported) after × AllByRecursion IsServed reported
 
@@ -67,8 +66,7 @@ exchange_reports may s i q (Offers head (IsRequest request room)) calls x notice
     (subst (λ (bytes : List ℕ). x ≡ served_exchange head bytes (served set (meaning s.options bytes (length room)) answers))
     (sym same) reported) in
     (r.serves.run, by_fault r.given.fault (turn x notice calls) (ap (λ (e : Exchange). e.fault) r.returns.exchange) (set, own, is))
-exchange_reports may s i q taking.Idle calls x notice after r = absurd r
-exchange_reports may s i q (Refuses e) calls x notice after r = absurd r
+exchange_reports may s i q _ calls x notice after r = absurd r
 
 step_reports :
     {F : Type 0} (may : May F) (s : State F) (i : ℕ) (o : Option Queue) (calls : Calls) (x : Exchange) (notice : Bool) (after : State F) →
@@ -204,7 +202,7 @@ performs_tell may s command [] (run.IsRefused why.OutOfMemory) after t = (ap (λ
 performs_tell may s command (x ∷ reported) (run.IsRefused why.OutOfMemory) after t = absurd t
 performs_tell may s command reported _ after t = does_tell may s command reported _ after t
 
--- a run tells its calls
+-- a run reports its calls
 pub run_reports : {F : Type 0} (may : May F) (s : State F) (events : List (Command × Answer)) (all_reported : List Turns) (after : State F)
     → RunReported may s events all_reported after →
     FileRun may s.files (calls_reported all_reported) after.files × AllByRecursion (AllByRecursion IsServed) all_reported
