@@ -23,13 +23,10 @@ use Rattle.plain_machine.specs.StepBy.{StepOfBy, ExchangesBy, Effects, AnswersBy
 use Rattle.plain_machine.specs.StepBy.{offered_by}
 use Rattle.live_machine.specs.Several.{LiveQueue}
 use Rattle.live_machine.specs.Live.{Phase, PoppedFaulty, Fetched, Asked, Own, Abandoned, InFlightChain, LiveState, LiveEvent, EndsPop}
-use Rattle.live_machine.specs.Live.{HasEffect}
 use Rattle.live_machine.specs.Live.{RefusesPop}
 use Rattle.live_machine.specs.Live.{DecodesRequest, ReceivesAnswer}
 use Rattle.live_machine.specs.Live.{PushesChain}
-use Rattle.live_machine.specs.Live.{StoresNotification, ResetsQueue, FillsBuffer, GivesUpChain, Abandons, RepliesOwnBytes, Remaps}
-use Rattle.live_machine.specs.Live.{MovesDevice}
-use Rattle.live_machine.specs.Live.{SetsOptions}
+use Rattle.live_machine.specs.Live.{StoresNotification, ResetsQueue, FillsBuffer, GivesUpChain, Abandons, RepliesOwnBytes}
 use Rattle.live_machine.specs.Live.{Happens}
 use Rattle.live_machine.specs.Live.{IsMappedEntry, IsUnreplied, LoadsAreMapped}
 use Rattle.live_machine.specs.Live.{LiveRun, EndsPopIn}
@@ -171,11 +168,7 @@ keeps {F} may s after (RepliesOwnBytes c request reply options) h all =
     subst (λ (k : LiveState F). AllWalked k) (sym h.state)
     (all_both (Walked s.limit) h.before (record c { phase = Own request reply } ∷ h.behind) parts.0
     (own_walked s.limit c c.phase request reply refl h.unreplied h.fits parts.1, parts.2))
-keeps {F} may s after (HasEffect call answer) h all = subst (λ (k : LiveState F). AllWalked k) (sym h.state) all
-keeps {F} may s after (SetsOptions options) h all = subst (λ (k : LiveState F). AllWalked k) (sym h.state) all
-keeps {F} may s after (Remaps m) h all = subst (λ (k : LiveState F). AllWalked k) (sym h.state) all
-keeps {F} may s after (MovesDevice m queues) h all =
-    subst (λ (k : LiveState F). AllWalked k) (sym h.state) all
+keeps {F} may s after _ h all = subst (λ (k : LiveState F). AllWalked k) (sym h.state) all
 
 pub run_keeps :
     {F : Type 0} (may : May F) (s after : LiveState F) (es : List LiveEvent) → LiveRun may s es after → AllWalked s → AllWalked after

@@ -1,5 +1,5 @@
 -- Each call of a chain is the one that waits behind those before it.
-use Rattle.std.proofs.Common.{◌≡◌, ℕ, zero, suc, Bool, List, [], ◌∷◌, ◌++◌, length, take, Option, Some, None, append-nil, append_assoc}
+use Rattle.std.proofs.Common.{◌≡◌, ℕ, zero, suc, Bool, List, [], ◌∷◌, ◌++◌, length, take, Option, Some, None, append_assoc}
 use Rattle.std.proofs.Common.{refl, sym, ap, ◌∙◌}
 use Rattle.std.specs.Prelude.{◌-◌, true, false, not, nat_lt, if◌then◌else◌}
 use Rattle.std.proofs.lemmas.List.{map-append}
@@ -8,7 +8,7 @@ use Rattle.fuse_fs.specs.declared.answers.Entry.{Entry}
 use Rattle.fuse_fs.specs.Calls.{FileCall, FileAnswer, Init, Listed, Lookup}
 use Rattle.fuse_fs.specs.Calls as file
 use Rattle.server_calls.specs.Requests.{entry_node, forget_node, forget_entry, options_after}
-use Rattle.server_replies.specs.Entries.{Fit, FitsIn, IsFull, IsWrong, entry_bytes, entry_len, fit_of, is_dot, no_node}
+use Rattle.server_replies.specs.Entries.{Fit, FitsIn, entry_bytes, entry_len, fit_of, is_dot, no_node}
 use Rattle.server_replies.specs.WholeReplies.{error_bytes, listing_bytes}
 use Rattle.virtiofsd_fuse.specs.Grammar.{Meaning, IsFault, Replies, IsSilent, Asks, One, Starts, Lists}
 use Rattle.virtiofsd_fuse.specs.Listings.{ListRequest, Next, ListingResult, after_call, list_entries, looked_up, placed, readdir_call}
@@ -38,8 +38,7 @@ choose false n x y x' y' one two = two
 placed_leads : (f : Fit) (bytes : List ℕ) (undo : List FileCall) (n : ℕ) (x y : ListingResult) → undo ≡ take n undo → Leads n x y →
     Leads n (placed f bytes undo x) (placed f bytes undo y)
 placed_leads FitsIn bytes undo n x y short leads = leads
-placed_leads IsFull bytes undo n x y short leads = short
-placed_leads (IsWrong errno) bytes undo n x y short leads = short
+placed_leads _ bytes undo n x y short leads = short
 
 -- what follows an entry leads, by any answers
 abbrev NextLeads : Next → Type 0
@@ -197,9 +196,3 @@ each_waits_first s m earlier later call answer more all =
     ∙ ap (λ (cs : List FileCall). take n cs)
     (all ∙ ap (λ (cs : List FileCall). cs ++ more) calls_are ∙ append_assoc (calls_alone earlier) (call ∷ calls_alone later) more)
     ∙ take_front earlier call (calls_alone later ++ more)
-
-pub each_waits : (s : Setting) (m : Meaning) (earlier later : Calls) (call : FileCall) (answer : FileAnswer)
-    → (served s m (answers_alone (earlier ++ (call, answer) ∷ later))).calls ≡ calls_alone (earlier ++ (call, answer) ∷ later)
-    → (served s m (answers_alone earlier)).calls ≡ calls_alone earlier ++ call ∷ []
-each_waits s m earlier later call answer all =
-    each_waits_first s m earlier later call answer [] (all ∙ sym (append-nil (calls_alone (earlier ++ (call, answer) ∷ later))))

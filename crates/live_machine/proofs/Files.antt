@@ -1,5 +1,5 @@
 -- A run over any files.
-use Rattle.std.proofs.Common.{◌≡◌, ℕ, List, [], ◌∷◌, ap, ◌∙◌}
+use Rattle.std.proofs.Common.{ℕ, List, [], ◌∷◌, ap, ◌∙◌}
 use Rattle.fs_queue.specs.Chain.{Descriptor}
 use Rattle.fs_regions.specs.declared.step.CourseStep as comes
 use Rattle.fs_regions.specs.declared.step.CourseStep.TheVariants as step
@@ -7,19 +7,18 @@ use Rattle.fs_regions.specs.Walks.{Loaded}
 use Rattle.virtiofsd_fuse.specs.Serving.{May}
 use Rattle.live_machine.specs.Files.{RunsOverFiles, any_files, over}
 use Rattle.live_machine.specs.Several.{LiveQueue}
-use Rattle.live_machine.specs.Live.{Abandons, DecodesRequest, EndsPop, EndsPopIn, FillsBuffer, GivesUpChain, Happens, LiveEvent, LiveRun}
+use Rattle.live_machine.specs.Live.{Abandons, DecodesRequest, EndsPop, EndsPopIn, FillsBuffer, GivesUpChain, Happens, LiveEvent}
 use Rattle.live_machine.specs.Live.{HasEffect}
 use Rattle.live_machine.specs.Live.{LiveState, MovesDevice, PushesChain, ReceivesAnswer, RefusesPop, Remaps, RepliesOwnBytes, ResetsQueue}
-use Rattle.live_machine.specs.Live.{SetsOptions, StoresNotification, calls_among}
+use Rattle.live_machine.specs.Live.{SetsOptions, StoresNotification}
 
 module _ {F : Type 0} (may : May F) where
   ends : (s after : LiveState (Unit {0})) (files : F) (i : ℕ) (w : LiveQueue) (loaded : Loaded) (ds : List Descriptor)
       (came : comes.CourseStep) → EndsPopIn s i w loaded ds came after → EndsPopIn (over s files) i w loaded ds came (over after files)
-  ends s after files i w loaded ds (step.Load walk) h = h
-  ends s after files i w loaded ds (step.Missing range access) h = h
   ends s after files i w loaded ds step.Idle h = (h.0, ap (λ (k : LiveState (Unit {0})). over k files) h.1)
   ends s after files i w loaded ds (step.Refused e) h = (h.0, ap (λ (k : LiveState (Unit {0})). over k files) h.1, h.2)
   ends s after files i w loaded ds (step.Chain head fault) h = (h.0, ap (λ (k : LiveState (Unit {0})). over k files) h.1, h.2)
+  ends s after files i w loaded ds _ h = h
 
   -- an event without a file call
   abbrev IsNoAnswer : LiveEvent → Type 0

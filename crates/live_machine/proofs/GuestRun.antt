@@ -4,7 +4,7 @@ use Rattle.std.proofs.Common.{refl, subst, sym, ap, ◌∙◌}
 use Rattle.std.specs.List.{list_any}
 use Rattle.std.proofs.lemmas.List.Folds.{list_any-append}
 use Rattle.vm_memory_core.specs.Host.{Host}
-use Rattle.vm_memory.specs.Memory.{Memory, physical, stored_all}
+use Rattle.vm_memory.specs.Memory.{Memory, physical}
 use Rattle.fs_queue.specs.Returning.{writes_of}
 use Rattle.virtiofsd_fuse.specs.Serving.{May}
 use Rattle.plain_machine.specs.MarkedPages.{Marks, block_mark, io_mark, marked_by, marks_block, marks_io}

@@ -1,7 +1,7 @@
 -- The calls of a pop make few loads.
 use Rattle.std.proofs.Common.{◌≡◌, ◌+◌, ◌<◌, ◌≤◌, ℕ, suc, Bool, List, [], ◌∷◌, ◌++◌, length, map, length-append, Option, Some, None, refl}
 use Rattle.std.proofs.Common.{subst, sym, ap, ◌∙◌, arith}
-use Rattle.std.specs.Prelude.{true, false, ◌==◌, ◌&&◌, option_map, if◌then◌else◌}
+use Rattle.std.specs.Prelude.{true, ◌==◌, ◌&&◌, option_map, if◌then◌else◌}
 use Rattle.std.proofs.lemmas.Bool.{eqb-true}
 use Rattle.vm_memory.specs.Memory.{Memory}
 use Rattle.fs_queue.specs.AnyLoads.{load_at, loads_by}
@@ -36,8 +36,7 @@ used_next size v l ls f rest true true is e =
     ap (λ (a : ℕ). step_by size v (record { address = a; came = l.came })) (sym (eqb-true l.address (entry_address v) is)) in
     ap (λ (w : WalkStep). suc (length (loads_by size (came_of ls) (ahead_after size v w)))) same
     ∙ ap suc (rest (ahead_after size v (step_by size v l)) x.0 x.1)
-used_next size v l ls f rest true false is e = absurd (none_some f e)
-used_next size v l ls f rest false c is e = absurd (none_some f e)
+used_next size v l ls f rest _ _ is e = absurd (none_some f e)
 
 -- a walk by just its loads uses each
 used_all : (size : ℕ) (ls : List Load) (a : Ahead) (f : Found) → found_exactly size ls a ≡ Some f →
@@ -59,9 +58,8 @@ IsInside (asks.Entries w) = (visit_of w.walk).index < (visit_of w.walk).table.en
 IsInside _ = Unit {0}
 
 pub inside_of : (m : Memory) (q : Queue) (ds : List Descriptor) (walk : QueueWalk) → IsLongestStretch m q ds walk → IsInside walk
-inside_of m q ds (asks.Index w) longest = tt
-inside_of m q ds (asks.RingEntry w) longest = tt
 inside_of m q ds (asks.Entries w) longest = let fits = longest.0.1 in let some = w.some in omega (arith, fits, some)
+inside_of m q ds _ longest = tt
 
 -- there is room for the load that is asked for
 few_before : (q : Queue) (head : ℕ) (ls more : List Load) (f : Found) (ds : List Descriptor) (v : Visit)

@@ -68,8 +68,7 @@ on_chain m q (l ∷ ls) request o fits = tt
 on_nothing : (m : Memory) (q : Queue) (index entry : Option (List ℕ)) (ls : List Load) (request : List ℕ) (o : Offer) → Fits m q o →
     Shows m q (without_loads index entry ls request o)
 on_nothing m q None None ls request o fits = on_chain m q ls request o fits
-on_nothing m q None (Some bs) ls request o fits = tt
-on_nothing m q (Some bs) entry ls request o fits = tt
+on_nothing m q _ _ ls request o fits = tt
 
 -- what is fetched, by its tests
 module _ (m : Memory) (q : Queue) (proceeds : return_fault m q ≡ None) (head : ℕ) where

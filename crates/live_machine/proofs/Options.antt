@@ -30,11 +30,6 @@ list_leaves s unique l (file.Failed a) answers = reply_leaves _ _ _ _
 list_leaves s unique l (file.Entries a) answers = reply_leaves _ _ _ _
 list_leaves s unique l answer answers = refl
 
-pub lists_leave : (s : Setting) (unique : ℕ) (l : ListRequest) (answers : List FileAnswer) →
-    (served s (Asks (Lists unique l)) answers).options ≡ s.options
-lists_leave s unique l [] = refl
-lists_leave s unique l (a ∷ answers) = list_leaves s unique l a answers
-
 pub leaves : (s : Setting) (m : Meaning) (answers : List FileAnswer) → (served s m answers).options ≡ left_of m answers s.options
 unfolding left_of
 leaves s (Replies bytes) answers = reply_leaves s.room [] s.options bytes

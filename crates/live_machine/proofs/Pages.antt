@@ -1,5 +1,5 @@
 -- Which pages the stores of a run mark.
-use Rattle.std.proofs.Common.{arith, ◌≡◌, ℕ, zero, suc, Bool, List, [], ◌∷◌, ◌++◌, length, map, take, drop, zip, flat_map, Option}
+use Rattle.std.proofs.Common.{arith, ◌≡◌, ℕ, suc, Bool, List, [], ◌∷◌, ◌++◌, length, map, take, drop, zip, flat_map, Option}
 use Rattle.std.proofs.Common.{refl, subst, sym, ap, ◌∙◌, append_assoc, append-nil}
 use Rattle.std.specs.Prelude.{◌||◌, ◌==◌, option_map}
 use Rattle.std.specs.Int.{w16, w32, to_le_bytes}
@@ -45,10 +45,9 @@ zip_none [] xs none = refl
 zip_none (a ∷ as') xs none = ap (λ (l : List ℕ). zip (a ∷ as') l) none
 
 zip_cut : (n : ℕ) (as' xs : List ℕ) → zip (take n as') (take n xs) ++ zip (drop n as') (drop n xs) ≡ zip as' xs
-zip_cut zero as' xs = refl
-zip_cut (suc n) [] xs = refl
 zip_cut (suc n) (a ∷ as') [] = zip_none (drop n as') [] refl
 zip_cut (suc n) (a ∷ as') (x ∷ xs) = ap (λ (l : List (ℕ × ℕ)). (a, x) ∷ l) (zip_cut n as' xs)
+zip_cut _ _ xs = refl
 
 -- so many bytes at as many addresses
 whole_firsts : (a n : ℕ) (xs : List ℕ) → length xs ≡ n → firsts (zip (addresses a n) xs) ≡ addresses a n

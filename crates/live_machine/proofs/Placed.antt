@@ -15,12 +15,10 @@ use Rattle.fs_regions.specs.Walks.{Loaded}
 use Rattle.virtiofsd_fuse.specs.Serving.{May}
 use Rattle.live_machine.specs.Several.{LiveQueue, InFlightId, took, gave_up, gave, returning}
 use Rattle.live_machine.specs.Live.{Phase, PoppedFaulty, Own, Abandoned, InFlightChain, LiveState, LiveEvent, EndsPop, RefusesPop}
-use Rattle.live_machine.specs.Live.{HasEffect}
 use Rattle.live_machine.specs.Live.{DecodesRequest}
 use Rattle.live_machine.specs.Live.{ReceivesAnswer}
 use Rattle.live_machine.specs.Live.{PushesChain, StoresNotification, ResetsQueue, FillsBuffer, GivesUpChain, Abandons, RepliesOwnBytes}
 use Rattle.live_machine.specs.Live.{Remaps}
-use Rattle.live_machine.specs.Live.{SetsOptions}
 use Rattle.live_machine.specs.Live.{MovesDevice, Happens}
 use Rattle.live_machine.specs.Live.{LiveRun}
 use Rattle.live_machine.specs.Live.{IfKeepsReturns, KeepsQueue, KeepsReturns, EndsPopIn, after_answer, after_decoding, after_reset}
@@ -299,14 +297,13 @@ module _ (i : ℕ) where
       (stays s (after_own s h.before h.behind c request reply options) refl refl
       (carries_on i h.before h.behind c (record c { phase = Own request reply }) (c.queue == i) refl refl refl
       ∙ sym (ap (λ (l : List InFlightChain). in_flight_on i l) h.out)) preserved)
-  keeps {F} may s mid (HasEffect call answer) h preserved = subst (λ (k : LiveState F). Preserved k) (sym h.state) preserved
-  keeps {F} may s mid (SetsOptions options) h preserved = subst (λ (k : LiveState F). Preserved k) (sym h.state) preserved
   keeps {F} may s mid (Remaps m') h preserved =
       subst (λ (k : LiveState F). Preserved k) (sym h.state) (λ w there. mapped_all s m' w s.chains there h.keeps (preserved w there))
   keeps {F} may s mid (MovesDevice m' queues) h preserved =
       subst (λ (k : LiveState F). Preserved k) (sym h.state)
       (λ w there. subst (λ (cs : List InFlightChain). Ahead m' w (out_on i cs)) (sym h.none_in_flight)
       (even_at queues i w h.positions_agree there))
+  keeps {F} may s mid _ h preserved = subst (λ (k : LiveState F). Preserved k) (sym h.state) preserved
 
   pub run_preserved : {F : Type 0} (may : May F) (s now : LiveState F) (es : List LiveEvent) → LiveRun may s es now → Preserved s
       → Preserved now
@@ -475,11 +472,10 @@ ties {F} may s mid (Abandons c) h all =
 ties {F} may s mid (RepliesOwnBytes c request reply options) h all =
     subst (λ (k : LiveState F). AllTied k) (sym h.state)
     (one_changed s.places s.queues h.before h.behind c (record c { phase = Own request reply }) s.chains h.out (λ tied. tied) all)
-ties {F} may s mid (HasEffect call answer) h all = subst (λ (k : LiveState F). AllTied k) (sym h.state) all
-ties {F} may s mid (SetsOptions options) h all = subst (λ (k : LiveState F). AllTied k) (sym h.state) all
 ties {F} may s mid (Remaps m') h all = subst (λ (k : LiveState F). AllTied k) (sym h.state) (mapped_tied s m' s.chains h.keeps all)
 ties {F} may s mid (MovesDevice m' queues) h all =
     subst (λ (k : LiveState F). AllTied k) (sym h.state) (subst (AllByRecursion (Tied m' queues)) (sym h.none_in_flight) tt)
+ties {F} may s mid _ h all = subst (λ (k : LiveState F). AllTied k) (sym h.state) all
 
 run_ties : {F : Type 0} (may : May F) (s now : LiveState F) (es : List LiveEvent) → LiveRun may s es now → AllTied s → AllTied now
 run_ties {F} may s now [] run all = subst (λ (k : LiveState F). AllTied k) (sym run) all

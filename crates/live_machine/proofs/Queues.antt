@@ -43,9 +43,8 @@ pub there_same : {A : Type 0} (xs : List A) (j i : ℕ) (f : A → A) (x : A) �
     slice_get (changed_at xs j f) i ≡ Some (f x)
 there_same {A} [] j i f x same there = absurd (none_some x there)
 there_same {A} (y ∷ ys) zero zero f x same there = ap (λ (z : A). Some (f z)) (same_some y x there)
-there_same {A} (y ∷ ys) zero (suc i) f x same there = absurd (omega arith)
-there_same {A} (y ∷ ys) (suc j) zero f x same there = absurd (omega arith)
 there_same {A} (y ∷ ys) (suc j) (suc i) f x same there = let less : j ≡ i = omega arith in there_same ys j i f x less there
+there_same {A} (y ∷ ys) _ _ f x same there = absurd (omega arith)
 
 pub there_other : {A : Type 0} (xs : List A) (j i : ℕ) (f : A → A) → (j ≡ i → ⊥) → slice_get (changed_at xs j f) i ≡ slice_get xs i
 there_other (y ∷ ys) zero zero f apart = absurd (apart refl)

@@ -13,7 +13,7 @@ use Rattle.fs_queue.specs.Chain.{Descriptor}
 use Rattle.fs_queue.specs.Loads.{Load, AreEntriesOf, IsEntryOf, IsLoadOf}
 use Rattle.fs_queue.specs.Queue.{Queue, avail_index_at, ring_entry_at, element_at, index_at}
 use Rattle.fs_queue.specs.Returning.{Store, stores_after_reply, notifies, advanced}
-use Rattle.fs_queue.specs.Taking.{Offer, Offers, IsRequest, CannotFetch, Idle, Refuses, readable, writable, total_len}
+use Rattle.fs_queue.specs.Taking.{Offer, Offers, IsRequest, CannotFetch, readable, writable, total_len}
 use Rattle.fs_queue.proofs.ConfinedLemmas.{only_places_count}
 use Rattle.fs_regions.specs.Laws.{HasLoaded}
 use Rattle.fs_regions.specs.declared.step.CourseStep.TheVariants as step
@@ -262,8 +262,7 @@ exchanges_over {F} may before after i q (Offers head (IsRequest request room)) c
     reported = made.returns.reported;
   };
 }
-exchanges_over may before after i q Idle calls x notice e m made = absurd made
-exchanges_over may before after i q (Refuses error) calls x notice e m made = absurd made
+exchanges_over may before after i q _ calls x notice e m made = absurd made
 
 abbrev room_in_offer : Option Offer → List ℕ
 room_in_offer (Some o) = room_offered o
@@ -326,9 +325,8 @@ get_map f (y ∷ ys) (suc i) x there = get_map f ys i x there
 
 map_changed : {A B : Type 0} (f : A → B) (xs : List A) (i : ℕ) (a b : A) →
     map f (changed_at (changed_at xs i (λ _. a)) i (λ _. b)) ≡ changed_at (map f xs) i (λ _. f b)
-map_changed f [] i a b = refl
-map_changed f (y ∷ ys) zero a b = refl
 map_changed f (y ∷ ys) (suc i) a b = ap (λ l. f y ∷ l) (map_changed f ys i a b)
+map_changed f _ _ a b = refl
 
 abbrev state_of : {F : Type 0} → Memory → List Queue → (options : ℕ) → F → (limit page_size : ℕ) → State F
 state_of m queues options files limit page_size =

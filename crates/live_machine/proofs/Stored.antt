@@ -22,12 +22,11 @@ abbrev AllThere : List ℕ → List (ℕ × ℕ) → Type 0
 AllThere target ws = AllByRecursion (λ (w : ℕ × ℕ). Contains target w.0) ws
 
 zipped_there : (as' xs target : List ℕ) → ((a : ℕ) → Contains as' a → Contains target a) → AllThere target (zip as' xs)
-zipped_there [] xs target there = tt
-zipped_there (a ∷ as') [] target there = tt
 zipped_there (a ∷ as') (x ∷ xs) target there = (
   there a (Contains-append_left (a ∷ []) as' a (0, omega arith, refl)),
   zipped_there as' xs target (λ b in_rest. there b (Contains-append_right (a ∷ []) as' b in_rest)),
 )
+zipped_there _ _ target there = tt
 
 both_there : (target : List ℕ) (ws vs : List (ℕ × ℕ)) → AllThere target ws → AllThere target vs → AllThere target (ws ++ vs)
 both_there target [] vs a b = b
@@ -83,9 +82,8 @@ among_stores [] = refl
 among_stores (store ∷ stores) = ap (λ (l : List Store). store ∷ l) (among_stores stores)
 
 zipped_within : (room as' xs : List ℕ) → AllByRecursion (λ a. Contains room a) as' → AllThere room (zip as' xs)
-zipped_within room [] xs all = tt
-zipped_within room (a ∷ as') [] all = tt
 zipped_within room (a ∷ as') (x ∷ xs) all = (all.0, zipped_within room as' xs all.1)
+zipped_within room _ _ all = tt
 
 stores_within : (room : List ℕ) (stores : List Store) → AllByRecursion (IsStoredIn room) stores → AllThere room (flat_map writes_of stores)
 stores_within room [] all = tt

@@ -44,8 +44,7 @@ on_chain P (l ∷ ls) request o p = tt
 on_nothing : (P : Offer → Type 0) (index entry : Option (List ℕ)) (ls : List Load) (request : List ℕ) (o : Offer) → P o →
     Shows P (without_loads index entry ls request o)
 on_nothing P None None ls request o p = on_chain P ls request o p
-on_nothing P None (Some bs) ls request o p = tt
-on_nothing P (Some bs) entry ls request o p = tt
+on_nothing P _ _ ls request o p = tt
 
 -- ---- by what waits
 
@@ -97,8 +96,7 @@ IsWithin limit (Offers head (IsRequest request room)) = (length request ≤ limi
 
 or_false : (x y : Bool) → (x || y) ≡ false → (x ≡ false) × (y ≡ false)
 or_false false false is = (refl, refl)
-or_false true y is = absurd (cc)
-or_false false true is = absurd (cc)
+or_false _ _ is = absurd (cc)
 
 -- what is fetched, by its tests
 fetched : (limit head : ℕ) (bs request room : List ℕ) (same : Bool) → (length bs == length request) ≡ same → length request ≤ limit →

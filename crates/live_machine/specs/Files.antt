@@ -1,5 +1,5 @@
 -- A run whose files may answer anything is a run over any files of which its calls are a run.
-use Rattle.std.specs.Prelude.{◌≡◌, ℕ, List}
+use Rattle.std.specs.Prelude.{List}
 use Rattle.fuse_fs.specs.Calls.{FileRun}
 use Rattle.virtiofsd_fuse.specs.Serving.{May}
 use Rattle.live_machine.specs.Live.{LiveEvent, LiveRun, LiveState, calls_among}
