@@ -4,19 +4,14 @@ ghost use Rattle.std.specs.Prelude.{◌≡◌, true, length};
 ghost use Rattle.fuse_fs.specs.Answers.{listed};
 ghost use Rattle.server_replies.specs.Entries.{no_node};
 ghost use Rattle.server_phases.specs.Gathering.{added_found, added_plain};
-ghost use Rattle.fs_chain_c.specs.Listing.{AddsEntry, AddsNode, AddsToHandle, EndsHandleList, EndsListing};
-ghost use Rattle.fs_chain_c.specs.Listing.{FailsListing, FailsHandle, RepliesError};
-ghost use Rattle.fs_chain_c.specs.Listing.{added_status, errno_of, is_entry, is_name, is_type, listed_as};
-ghost use Rattle.fs_chain_c.specs.Listing.{type_of};
+ghost use Rattle.fs_chain_c.specs.Listing.{AddsNode, AddsToHandle, EndsListing, FailsListing, FailsHandle};
+ghost use Rattle.fs_chain_c.specs.Listing.{added_status, errno_of, is_entry, is_name, is_type};
 ghost use Rattle.fs_chain.specs.Orders.{is_listing};
 ghost use Rattle.fs_chain_c.specs.Handles.{OnHandle};
-ghost use Rattle.fs_chain_c.specs.Replies.{entry_of};
 
-use crate::answers::{FsEntry, entry_of};
 use crate::decoding::answer_handle;
-use crate::exports::wrong_order;
 use crate::handle::FsChain;
-use crate::replies::reply;
+use crate::status::wrong_order;
 use fs_chain::{Added, ChainError, ChainHandle};
 use fuse_base::Errno;
 use fuse_fs::{DirEntry, Entry};
@@ -68,15 +63,15 @@ fn is_type(type_: u32) -> bool
         || type_ == 12
 }
 
-// Whether a directory may have an entry of this name and type.
-fn is_entry(name: &[u8], type_: u32) -> bool
+/// Whether a directory may have an entry of this name and type.
+pub fn is_entry(name: &[u8], type_: u32) -> bool
     ensures { result ≡ is_entry name.now type_ }
 {
     is_name(name) && is_type(type_)
 }
 
-// Adds an entry of READDIR to a handle's listing.
-fn add_to_handle(
+/// Adds an entry of READDIR to a handle's listing.
+pub fn add_to_handle(
     handle: &mut ChainHandle,
     ticket: u32,
     list: &mut [u8],
@@ -102,40 +97,8 @@ fn add_node_to_handle(
     added_status(handle.add_with_node(ticket, list, entry, node))
 }
 
-/// Adds an entry of READDIR behind those before it.
-#[unsafe(no_mangle)]
-pub extern "C" fn pk_add_direntry(
-    alloc: Global,
-    chain: &mut FsChain,
-    ticket: u32,
-    list: &mut [u8],
-    name: &[u8],
-    ino: u64,
-    next_offset: u64,
-    type_: u32,
-) -> u32
-    ensures { AddsEntry (is_entry name.now type_) (listed_as name.now ino next_offset type_) ticket
-        chain.old.held.value list.old result chain.new.held.value list.new }
-{
-    if !is_entry(name, type_) {
-        return u32::from(ChainError::BadArgument.number());
-    }
-    let Some(mut handle) = chain.take(alloc) else {
-        return wrong_order();
-    };
-    let entry = DirEntry {
-        ino,
-        offset: next_offset,
-        type_,
-        name,
-    };
-    let status = add_to_handle(&mut handle, ticket, list, &entry);
-    *chain = FsChain::of_box(handle);
-    status
-}
-
-// Adds an entry of READDIRPLUS with its node behind those before it.
-fn add_node(
+/// Adds an entry of READDIRPLUS with its node behind those before it.
+pub fn add_node(
     alloc: Global,
     chain: &mut FsChain,
     ticket: u32,
@@ -157,62 +120,14 @@ fn add_node(
     status
 }
 
-/// Adds an entry of READDIRPLUS, with its node, behind those before it.
-#[unsafe(no_mangle)]
-pub extern "C" fn pk_add_direntry_plus(
-    alloc: Global,
-    chain: &mut FsChain,
-    ticket: u32,
-    list: &mut [u8],
-    name: &[u8],
-    entry: &FsEntry,
-    next_offset: u64,
-) -> u32
-    ensures { AddsNode (is_entry name.now (type_of entry.now))
-        (listed_as name.now entry.now.attr.ino next_offset (type_of entry.now)) (entry_of entry.now) ticket
-        chain.old.held.value list.old result chain.new.held.value list.new }
-{
-    let type_ = entry.attr.mode / 4096 % 16;
-    if !is_entry(name, type_) {
-        return u32::from(ChainError::BadArgument.number());
-    }
-    let listed = DirEntry {
-        ino: entry.attr.ino,
-        offset: next_offset,
-        type_,
-        name,
-    };
-    add_node(alloc, chain, ticket, list, &listed, entry_of(entry))
-}
-
-// Answers with the entries so far: a status, and how many bytes of the list are the data.
-fn end_listing(handle: &mut ChainHandle, ticket: u32) -> (u32, u64)
+/// Answers with the entries so far: a status, and how many bytes of the list are the data.
+pub fn end_listing(handle: &mut ChainHandle, ticket: u32) -> (u32, u64)
     ensures { EndsListing handle.old ticket result.0 result.1 handle.new }
 {
     match handle.end(ticket) {
         Ok(len) => (0, len as u64),
         Err(error) => (u32::from(error.number()), 0),
     }
-}
-
-/// Answers with the entries so far: how many bytes of the list are the data.
-#[unsafe(no_mangle)]
-pub extern "C" fn pk_reply_entries(
-    alloc: Global,
-    chain: &mut FsChain,
-    ticket: u32,
-    len: &mut u64,
-) -> u32
-    ensures { EndsHandleList ticket chain.old.held.value result len.new chain.new.held.value }
-{
-    let Some(mut handle) = chain.take(alloc) else {
-        *len = 0;
-        return wrong_order();
-    };
-    let (status, reported) = end_listing(&mut handle, ticket);
-    *len = reported;
-    *chain = FsChain::of_box(handle);
-    status
 }
 
 // A listing fails by an errno.
@@ -236,15 +151,15 @@ fn fail_handle(handle: &mut ChainHandle, ticket: u32, error: Errno) -> u32
     }
 }
 
-// The errno of a number, from 1 to 4095.
-fn errno_of(number: u32) -> Option<Errno>
+/// The errno of a number, from 1 to 4095.
+pub fn errno_of(number: u32) -> Option<Errno>
     ensures { result ≡ errno_of number }
 {
     Errno::new(number)
 }
 
-// A handle's call fails by an errno.
-fn fail_chain(alloc: Global, chain: &mut FsChain, ticket: u32, error: Errno) -> u32
+/// A handle's call fails by an errno.
+pub fn fail_chain(alloc: Global, chain: &mut FsChain, ticket: u32, error: Errno) -> u32
     ensures { OnHandle (λ b b'. FailsHandle (is_listing b.state) error ticket b result b') (result ≡ 73)
         chain.old.held.value chain.new.held.value }
 {
@@ -254,21 +169,4 @@ fn fail_chain(alloc: Global, chain: &mut FsChain, ticket: u32, error: Errno) -> 
     let status = fail_handle(&mut handle, ticket, error);
     *chain = FsChain::of_box(handle);
     status
-}
-
-/// A chain's call is done (0), or fails by an errno.
-#[unsafe(no_mangle)]
-pub extern "C" fn pk_reply_err(alloc: Global, chain: &mut FsChain, ticket: u32, error: u32) -> u32
-    ensures { RepliesError error ticket chain.old.held.value result chain.new.held.value }
-{
-    match errno_of(error) {
-        Some(errno) => fail_chain(alloc, chain, ticket, errno),
-        None => {
-            if error == 0 {
-                reply(alloc, chain, ticket, FileAnswer::Done)
-            } else {
-                u32::from(ChainError::BadArgument.number())
-            }
-        }
-    }
 }

@@ -1,17 +1,11 @@
 //! The addresses that an IOMMU's table lacks, and those of it that a chain uses.
 
 ghost use Rattle.std.specs.Prelude.{◌≡◌};
-ghost use Rattle.fs_chain.specs.Numbers.{chain_error_number};
-ghost use Rattle.fs_chain.specs.declared.error.ChainError.TheVariants.{WrongOrder};
-ghost use Rattle.fs_chain_c.specs.Handles.{OnHandle};
 ghost use Rattle.fs_chain_c.specs.Iotlbs.{ReportsMiss, ReportsUse, no_miss};
 
 use crate::access::access_number;
-use crate::exports::wrong_order;
-use crate::handle::FsChain;
 use crate::popping::MISS;
 use fs_chain::ChainHandle;
-use std::alloc::Global;
 
 /// The descriptor has no miss from there on.
 const NO_MISS: u32 = 0;
@@ -44,8 +38,8 @@ impl FsMiss {
     }
 }
 
-// The first miss of a gathered descriptor from an address on, and a status.
-fn miss_of(handle: &ChainHandle, index: usize, from: u64) -> (FsMiss, u32)
+/// The first miss of a gathered descriptor from an address on, and a status.
+pub fn miss_of(handle: &ChainHandle, index: usize, from: u64) -> (FsMiss, u32)
     ensures { ReportsMiss handle.now index from result.1 result.0 }
 {
     if handle.gathered() <= index {
@@ -64,46 +58,9 @@ fn miss_of(handle: &ChainHandle, index: usize, from: u64) -> (FsMiss, u32)
     }
 }
 
-/// Returns the first addresses of a gathered descriptor, from an address on, that the table doesn't map.
-#[unsafe(no_mangle)]
-pub extern "C" fn pk_miss(
-    alloc: Global,
-    chain: &mut FsChain,
-    index: usize,
-    from: u64,
-    miss: &mut FsMiss,
-) -> u32
-    ensures { OnHandle (λ b b'. ReportsMiss b index from result miss.new × (b' ≡ b))
-        ((result ≡ chain_error_number WrongOrder) × (miss.new ≡ no_miss))
-        chain.old.held.value chain.new.held.value }
-{
-    let Some(handle) = chain.take(alloc) else {
-        *miss = FsMiss::nothing();
-        return wrong_order();
-    };
-    let (reported, status) = miss_of(&handle, index, from);
-    *miss = reported;
-    *chain = FsChain::of_box(handle);
-    status
-}
-
-// Whether the chain in flight uses one of some addresses: 1 or 0.
-fn use_of(handle: &ChainHandle, iova: u64, len: u64) -> u8
+/// Whether the chain in flight uses one of some addresses: 1 or 0.
+pub fn use_of(handle: &ChainHandle, iova: u64, len: u64) -> u8
     ensures { ReportsUse handle.now iova len result }
 {
     if handle.uses(iova, len) { 1 } else { 0 }
-}
-
-/// Returns whether the chain in flight uses one of `len` I/O addresses with its request or reply buffer.
-#[unsafe(no_mangle)]
-pub extern "C" fn pk_uses(alloc: Global, chain: &mut FsChain, iova: u64, len: u64) -> u8
-    ensures { OnHandle (λ b b'. ReportsUse b iova len result × (b' ≡ b)) (result ≡ 0)
-        chain.old.held.value chain.new.held.value }
-{
-    let Some(handle) = chain.take(alloc) else {
-        return 0;
-    };
-    let reported = use_of(&handle, iova, len);
-    *chain = FsChain::of_box(handle);
-    reported
 }

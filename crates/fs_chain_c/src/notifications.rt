@@ -1,15 +1,12 @@
 //! The store by which C enables or disables available buffer notifications.
 
 ghost use Rattle.std.specs.Prelude.{◌≡◌};
-ghost use Rattle.fs_chain_c.specs.Notifications.{AsksKicks, SetsNotification, no_store};
+ghost use Rattle.fs_chain_c.specs.Notifications.{SetsNotification, no_store};
 
-use crate::exports::wrong_order;
-use crate::handle::FsChain;
 use crate::popping::NOT_MAPPED;
 use crate::pushing::here;
 use crate::queue::FsQueue;
 use fs_chain::{ChainError, ChainHandle};
-use std::alloc::Global;
 use vm_memory_core::Permissions;
 
 /// A store of two bytes, or none.
@@ -25,8 +22,8 @@ pub struct FsStore {
 }
 
 impl FsStore {
-    // Nothing is to be stored.
-    fn nothing() -> FsStore
+    /// Nothing is to be stored.
+    pub fn nothing() -> FsStore
         ensures { result ≡ no_store }
     {
         FsStore {
@@ -37,8 +34,8 @@ impl FsStore {
     }
 }
 
-// The store for a queue of C's, and a status.
-fn set_notification(handle: &ChainHandle, queue: &FsQueue, enabled: u32) -> (FsStore, u32)
+/// The store for a queue of C's, and a status.
+pub fn set_notification(handle: &ChainHandle, queue: &FsQueue, enabled: u32) -> (FsStore, u32)
     ensures { SetsNotification handle.now queue.now enabled result.0 result.1 }
 {
     let Some(preserved) = queue.preserved() else {
@@ -57,25 +54,4 @@ fn set_notification(handle: &ChainHandle, queue: &FsQueue, enabled: u32) -> (FsS
         }
         None => (FsStore::nothing(), NOT_MAPPED),
     }
-}
-
-/// The store that enables (1) or disables (0) notifications of a queue, over a handle's regions.
-#[unsafe(no_mangle)]
-pub extern "C" fn pk_set_notification(
-    alloc: Global,
-    chain: &mut FsChain,
-    queue: &FsQueue,
-    enabled: u32,
-    store: &mut FsStore,
-) -> u32
-    ensures { AsksKicks chain.old.held.value queue.now enabled result store.new chain.new.held.value }
-{
-    let Some(handle) = chain.take(alloc) else {
-        *store = FsStore::nothing();
-        return wrong_order();
-    };
-    let (reported, status) = set_notification(&handle, queue, enabled);
-    *store = reported;
-    *chain = FsChain::of_box(handle);
-    status
 }

@@ -1,11 +1,9 @@
 //! The guest addresses of a reply buffer.
 
 ghost use Rattle.std.specs.Prelude.{◌≡◌, ◌<◌, ◌≤◌, ◌-◌, ◌^◌, min, IfSome, None};
-ghost use Rattle.fs_chain_c.specs.Ranges.{FillsRanges, IsReplyRange, RoomEnds, ReportsRanges};
+ghost use Rattle.fs_chain_c.specs.Ranges.{FillsRanges, IsReplyRange, RoomEnds};
 
-use crate::handle::FsChain;
 use fs_chain::ChainHandle;
-use std::alloc::Global;
 
 /// A range of guest addresses.
 #[repr(C)]
@@ -33,9 +31,9 @@ fn range(handle: &ChainHandle, from: u64, most: u64) -> Option<FsRange>
     }
 }
 
-// Fills the first of some ranges with those of the reply buffer's bytes from one on. They cover at most
-// `most` bytes, and none past 2^64 - 1. Returns how many ranges it filled.
-fn fill_ranges(handle: &ChainHandle, from: u64, most: u64, ranges: &mut [FsRange]) -> usize
+/// Fills the first of some ranges with those of the reply buffer's bytes from one on. They cover at most
+/// `most` bytes, and none past 2^64 - 1. Returns how many ranges it filled.
+pub fn fill_ranges(handle: &ChainHandle, from: u64, most: u64, ranges: &mut [FsRange]) -> usize
     ensures { FillsRanges handle.now from (min most (2 ^ 64 - 1 - from)) ranges.old ranges.new result }
 {
     let (mut at, mut left) = (from, most.min(u64::MAX - from));
@@ -51,24 +49,4 @@ fn fill_ranges(handle: &ChainHandle, from: u64, most: u64, ranges: &mut [FsRange
         at += range.len;
     }
     ranges.len()
-}
-
-/// The guest ranges of a reply buffer's bytes from one on, at most so many: returns how many ranges are
-/// filled.
-#[unsafe(no_mangle)]
-pub extern "C" fn pk_reply_ranges(
-    alloc: Global,
-    chain: &mut FsChain,
-    from: u64,
-    len: u64,
-    ranges: &mut [FsRange],
-) -> usize
-    ensures { ReportsRanges chain.old.held.value from len ranges.old result chain.new.held.value ranges.new }
-{
-    let Some(handle) = chain.take(alloc) else {
-        return 0;
-    };
-    let count = fill_ranges(&handle, from, len, ranges);
-    *chain = FsChain::of_box(handle);
-    count
 }

@@ -1,15 +1,14 @@
 //! The record of a device and its queues.
 
-ghost use Rattle.std.specs.Prelude.{◌≡◌, ◌⊎◌, ◌≤◌, All, Err, IfErr, IfOk, IfSome, None, OnOk, false, length};
-ghost use Rattle.std.specs.Prelude.{map, true};
+ghost use Rattle.std.specs.Prelude.{◌≡◌, ◌⊎◌, ◌≤◌, All, Err, IfErr, IfOk, IfSome, None, OnOk, false};
+ghost use Rattle.std.specs.Prelude.{length, map, true};
 ghost use Rattle.fs_chain.specs.declared.error.ChainError.TheVariants.{BadArgument, ChainInFlight};
 ghost use Rattle.fs_chain.specs.declared.error.ChainError.TheVariants.{OutOfMemory};
 ghost use Rattle.memory_requests.specs.Refused.{RoomWasRefused};
 ghost use Rattle.fs_record.specs.Record.{HasKnownBits};
 ghost use Rattle.fs_chain_c.specs.Queues.{IsQueue};
 ghost use Rattle.fs_chain_c.specs.Records.{FitRecord, HasNoneOut, RefusesToSave, RefusesQueues, Restores};
-ghost use Rattle.fs_chain_c.specs.Records.{Saves, SavesSo, numbers_over, queue_of, restored_over};
-ghost use Rattle.fs_chain_c.specs.Records.{saved_status};
+ghost use Rattle.fs_chain_c.specs.Records.{SavesSo, numbers_over, queue_of, restored_over, saved_status};
 
 use crate::device::FsDevice;
 use crate::queue::FsQueue;
@@ -99,8 +98,8 @@ fn options_of(bits: u64) -> Option<FsOptions>
     }
 }
 
-// Writes the record to the front of a buffer, and returns its length.
-fn save(
+/// Writes the record to the front of a buffer, and returns its length.
+pub fn save(
     alloc: Global,
     device: &FsDevice,
     queues: &[FsQueue],
@@ -131,30 +130,14 @@ fn save(
     (len, None)
 }
 
-// The status of a saved record.
-fn saved_status(refused: Option<ChainError>) -> u32
+/// The status of a saved record.
+pub fn saved_status(refused: Option<ChainError>) -> u32
     ensures { result ≡ saved_status refused }
 {
     match refused {
         Some(error) => u32::from(error.number()),
         None => 0,
     }
-}
-
-/// Writes the record of a device and its queues to the front of a buffer, and returns its length in bytes.
-#[unsafe(no_mangle)]
-pub extern "C" fn pk_save(
-    alloc: Global,
-    device: &FsDevice,
-    queues: &[FsQueue],
-    buffer: &mut [u8],
-    len: &mut usize,
-) -> u32
-    ensures { Saves device.now queues.now buffer.old result len.new buffer.new }
-{
-    let (reported, refused) = save(alloc, device, queues, buffer);
-    *len = reported;
-    saved_status(refused)
 }
 
 // The numbers of a queue that is reset from a record, over its earlier ones.
@@ -203,10 +186,8 @@ fn fit_record(queues: &[FsQueue], restored: &[Queue]) -> bool
     true
 }
 
-/// Reads a record into the device's options and the queues, and returns how many queues it has. C calls
-/// pk_restore, which then gives each of the queues a number of its own (tools/pk_numbers.c).
-#[unsafe(no_mangle)]
-pub extern "C" fn pk_restore_unnumbered(
+/// Reads a record into the device's options and the queues, and returns how many queues it has.
+pub fn restore(
     alloc: Global,
     device: &mut FsDevice,
     queues: &mut [FsQueue],

@@ -1,10 +1,11 @@
-//! Setting a handle's memory.
+//! Setting a handle's memory and its next ticket.
 
 ghost use Rattle.std.specs.Prelude.{◌≡◌, IfOk, IfErr, OnErr, OnOk, option_map};
-ghost use Rattle.fs_chain_c.specs.Handles.{ProceedsOver, IsNewHandle, MakesHandle, RefusesMemory, RefusesNew};
-ghost use Rattle.fs_chain_c.specs.Handles.{SetsHandle};
+ghost use Rattle.fs_chain_c.specs.Handles.{ProceedsOver, IsNewHandle, MakesHandle, RefusesMemory};
+ghost use Rattle.fs_chain_c.specs.Handles.{RefusesNew, SetsHandle, NumbersHandle, SetsMemory};
 
 use crate::device::FsDevice;
+use crate::handle::FsChain;
 use crate::memory::{FsRegion, memory_of};
 use fs_chain::{ChainError, ChainHandle};
 use fs_regions::GuestMap;
@@ -80,5 +81,43 @@ pub fn make_handle(
     match made(alloc, device, regions) {
         Ok(handle) => (Some(handle), 0),
         Err(error) => (None, u32::from(error.number())),
+    }
+}
+
+/// Sets the memory of the chain's next pops, and the device's limit. A handle of zeros gets its box.
+pub fn set_memory(
+    alloc: Global,
+    chain: &mut FsChain,
+    device: &FsDevice,
+    regions: &[FsRegion],
+) -> u32
+    ensures { SetsMemory chain.old.held.value device.now regions.now result chain.new.held.value }
+{
+    match chain.take(alloc) {
+        Some(mut handle) => {
+            let status = set_handle(alloc, &mut handle, device, regions);
+            *chain = FsChain::of_box(handle);
+            status
+        }
+        None => {
+            let (made, status) = make_handle(alloc, device, regions);
+            match made {
+                Some(handle) => {
+                    *chain = FsChain::of_box(handle);
+                    status
+                }
+                None => status,
+            }
+        }
+    }
+}
+
+/// Sets the ticket of a handle's next chain, and returns a status.
+pub fn number_handle(handle: &mut ChainHandle, first: u32) -> u32
+    ensures { NumbersHandle handle.old first result handle.new }
+{
+    match handle.number_from(first) {
+        Ok(()) => 0,
+        Err(error) => u32::from(error.number()),
     }
 }

@@ -1,11 +1,14 @@
 //! The host addresses of a chain's bytes.
 
-ghost use Rattle.std.specs.Prelude.{◌≡◌, ◌<◌, ◌≤◌, ◌-◌, ◌^◌, min, true, IfSome, None};
+ghost use Rattle.std.specs.Prelude.{◌≡◌, ◌<◌, ◌≤◌, ◌-◌, ◌^◌, min, IfSome, None};
 ghost use Rattle.fs_chain.specs.Passing.{HasPassed};
 ghost use Rattle.fs_chain_c.specs.Windows.{FillsWindows, HasNoMore, IsStretch};
+ghost use Rattle.fs_chain_c.specs.Handles.{ReportsStretches};
 
+use crate::handle::FsChain;
 use crate::popping::host_at;
 use fs_chain::{ChainHandle, WindowCursor};
+use std::alloc::Global;
 
 /// A piece of host memory, laid out as `struct iovec`.
 #[repr(C)]
@@ -68,4 +71,25 @@ pub fn fill(
         at += stretch.len as u64;
     }
     windows.len()
+}
+
+/// Fills the windows of the bytes of one direction from one on, at most so many; returns how many windows.
+#[inline(never)]
+pub fn report_windows(
+    alloc: Global,
+    chain: &mut FsChain,
+    write_only: bool,
+    from: u64,
+    len: u64,
+    windows: &mut [FsWindow],
+) -> usize
+    ensures { ReportsStretches chain.old.held.value write_only from len windows.old result
+        chain.new.held.value windows.new }
+{
+    let Some(handle) = chain.take(alloc) else {
+        return 0;
+    };
+    let count = fill(&handle, write_only, from, len, windows);
+    *chain = FsChain::of_box(handle);
+    count
 }
