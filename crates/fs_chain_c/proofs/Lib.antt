@@ -12,10 +12,8 @@ pub mod MovingLemmas
 pub mod NamePlaces
 pub mod NotifyLemmas
 pub mod QueueLemmas
-pub mod QueueStates
 pub mod RangeLemmas
 pub mod RecordLemmas
-pub mod SameQueues
 pub mod SpanCalls
 pub mod SpanLemmas
 pub mod WindowLemmas

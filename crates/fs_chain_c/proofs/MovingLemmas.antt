@@ -1,7 +1,7 @@
 -- Records that C saves and restores, by the core's queues.
 use Rattle.std.proofs.Common.{arith, ◌≡◌, ℕ, suc, ◌+◌, ◌-◌, ◌%◌, ◌^◌, ◌<◌, ◌≤◌, ◌==◌, max, All, Bool, true, false, not, List, [], ◌∷◌, ◌++◌}
 use Rattle.std.proofs.Common.{drop, length, map, take, Option, Some, None, refl, subst, sym, ap, ◌∙◌, if◌then◌else◌}
-use Rattle.std.specs.Prelude.{IsTrue, is_some, unwrap_or}
+use Rattle.std.specs.Prelude.{IsTrue, is_some}
 use Rattle.std.specs.List.{AllByRecursion}
 use Rattle.std.proofs.lemmas.Bool.Decides.{nat_tests}
 use Rattle.std.proofs.lemmas.List.{length-map}
@@ -11,6 +11,7 @@ use Rattle.server_replies.specs.PageSizes.{is_page_size}
 use Rattle.fs_queue.specs.Queue.{Queue, resumed}
 use Rattle.fs_queue.specs.declared.fault.QueueError.{QueueError}
 use Rattle.fs_queue.specs.declared.fault.QueueError.TheVariants as stop
+use Rattle.fs_queue.specs.Numbers.{queue_number}
 use Rattle.fs_record.specs.Numbers.{restore_error_number}
 use Rattle.fs_record.specs.Record.{IsRecord, IsSavedQueue, Second, Version}
 use Rattle.fs_record.proofs.ReadingLemmas.{one_reading}
@@ -22,55 +23,25 @@ use Rattle.fs_chain_c.specs.declared.device.FsDevice.{FsDevice}
 use Rattle.fs_chain_c.specs.declared.queue.FsQueue.{FsQueue}
 use Rattle.fs_chain_c.specs.Moving.{AreQueueStates, HasItsWidths, HasNoneInFlight, HasValidMaximum, MovesByRecord, RestoresARecord}
 use Rattle.fs_chain_c.specs.Moving.{SavesARecord, recorded}
-use Rattle.fs_chain_c.specs.Queues.{IsQueue, IsQueueState, stop_of}
+use Rattle.fs_chain_c.specs.Queues.{IsQueue, IsQueueState, stop_number}
 use Rattle.fs_chain_c.specs.Records.{HasNoneOut, Restored, HasRecord, TooFewQueues, NoRecord, ReadsSo}
 use Rattle.fs_chain_c.specs.Records.{RestoreOutcome, SavesSo}
 use Rattle.fs_chain_c.specs.Records.{bytes_of, numbers_over, queue_of, read_status, restored_over, saved_status}
 
-same_some : {A : Type 0} (x y : A) → Some x ≡ Some y → x ≡ y
-same_some {A} x y e = ap (λ (o : Option A). unwrap_or o x) e
-
 -- ---- a queue's numbers, and the core's queue
 
--- a number that isn't 0 is of a refusal
-abbrev IsStop : Option (Option QueueError) → Type 0
-IsStop (Some None) = ⊥
-IsStop _ = Unit {0}
+positive : (e : QueueError) → (queue_number e == 0) ≡ false
+positive stop.Stopped = refl
+positive _ = refl
 
-stop_if : (b : Bool) (e : QueueError) (rest : Option (Option QueueError)) → IsStop rest → IsStop (if b then Some (Some e) else rest)
-stop_if true e rest is = tt
-stop_if false e rest is = is
-
-some_stop : (x : Option QueueError) → IsStop (Some x) → is_some x ≡ true
-some_stop None is = absurd is
-some_stop (Some e) is = refl
-
-stop_first : (z : Bool) (rest : Option (Option QueueError)) (x : Option QueueError) → IsStop rest → (if z then Some None else rest) ≡ Some x
-    → is_some x ≡ not z
-stop_first true rest x stops is = ap (λ (o : Option QueueError). is_some o) (sym (same_some None x is))
-stop_first false rest x stops is = some_stop x (subst IsStop is stops)
-
-stopped_is : (n : ℕ) (x : Option QueueError) → stop_of n ≡ Some x → is_some x ≡ not (n == 0)
-stopped_is n x is =
-    stop_first (n == 0) _ x
-    (stop_if (n == 1) stop.Stopped _
-    (stop_if (n == 2) stop.AvailIndexUnreachable _
-    (stop_if (n == 3) stop.AvailTooFar _
-    (stop_if (n == 4) stop.RingEntryUnreachable _
-    (stop_if (n == 5) stop.HeadOutOfTable _
-    (stop_if (n == 6) stop.UsedUnreachable _
-    (stop_if (n == 7) stop.AvailFlagsUnreachable _ (stop_if (n == 8) stop.DescriptorUnreachable None tt)))))))) is
+stopped_is : (x : Option QueueError) → not (stop_number x == 0) ≡ is_some x
+stopped_is None = refl
+stopped_is (Some e) = ap (λ (b : Bool). not b) (positive e)
 
 pub recorded_is : (q : FsQueue) (k : QueueState) → IsQueueState q k → queue_of q ≡ recorded k
 recorded_is q k is =
-    let s = not (q.stopped == 0) in
-    ap (λ (n : ℕ). resumed n q.desc q.avail q.used q.next_avail s) (sym is.size)
-    ∙ ap (λ (n : ℕ). resumed k.layout.size n q.avail q.used q.next_avail s) (sym is.desc)
-    ∙ ap (λ (n : ℕ). resumed k.layout.size k.layout.desc n q.used q.next_avail s) (sym is.avail)
-    ∙ ap (λ (n : ℕ). resumed k.layout.size k.layout.desc k.layout.avail n q.next_avail s) (sym is.used)
-    ∙ ap (λ (n : ℕ). resumed k.layout.size k.layout.desc k.layout.avail k.layout.used n s) (sym is.next_avail)
-    ∙ ap (λ (b : Bool). resumed k.layout.size k.layout.desc k.layout.avail k.layout.used k.next_avail b)
-    (sym (stopped_is q.stopped k.stopped is.stopped))
+    ap queue_of (sym is.numbers)
+    ∙ ap (λ (b : Bool). resumed k.layout.size k.layout.desc k.layout.avail k.layout.used k.next_avail b) (stopped_is k.stopped)
 
 all_recorded : (qs : List FsQueue) (ks : List QueueState) → AreQueueStates qs ks → map queue_of qs ≡ map recorded ks
 all_recorded [] [] are = refl
@@ -98,10 +69,12 @@ all_even : (qs : List FsQueue) (ks : List QueueState) → AllByRecursion HasItsW
     AllByRecursion HasNoneInFlight ks
 all_even [] [] bits none are = tt
 all_even (q ∷ qs) (k ∷ ks) bits none are =
-    let at = one_position q.next_avail q.next_used bits.0.1 bits.0.2 (All-head HasNoneOut q qs none) in (
+    let at = one_position q.next_avail q.next_used bits.0.1 bits.0.2 (All-head HasNoneOut q qs none) in
+    let next_avail = ap (λ (x : FsQueue). x.next_avail) are.0.numbers in
+    let next_used = ap (λ (x : FsQueue). x.next_used) are.0.numbers in (
       (
-        are.0.next_used ∙ at ∙ sym are.0.next_avail,
-        subst (λ (n : ℕ). n < 2 ^ 16) (sym are.0.next_avail) bits.0.1,
+        next_used ∙ at ∙ sym next_avail,
+        subst (λ (n : ℕ). n < 2 ^ 16) (sym next_avail) bits.0.1,
       ),
       all_even qs ks bits.1 (All-tail HasNoneOut q qs none) are.1,
     )
@@ -186,19 +159,22 @@ go_on [] (q ∷ qs) ks few all are = absurd (none_left (length qs) few)
 go_on (old ∷ olds) (q ∷ qs) (k ∷ ks) few all are =
     let one = are.0 in
     let low : q.position < 2 ^ 16 = (All-head IsSavedQueue q qs all).2 in
-    let size : q.size ≡ k.layout.size = sym one.size in
+    let size : q.size ≡ k.layout.size = sym (ap (λ (x : FsQueue). x.size) one.numbers) in
+    let next_avail = ap (λ (x : FsQueue). x.next_avail) one.numbers in
+    let next_used = ap (λ (x : FsQueue). x.next_used) one.numbers in
+    let most = ap (λ (x : FsQueue). x.max_in_flight) one.numbers in
     let rest = go_on olds qs ks (omega (arith, few)) (All-tail IsSavedQueue q qs all) are.1 in (
       ap (λ (x : Queue). x ∷ map recorded ks) (sym (recorded_is (numbers_over old q) k one) ∙ over_back old q)
           ∙ ap (λ (l : List Queue). q ∷ l) rest.0,
       (
-        (one.next_used ∙ sym one.next_avail, subst (λ (n : ℕ). n < 2 ^ 16) (sym one.next_avail) low),
+        (next_used ∙ sym next_avail, subst (λ (n : ℕ). n < 2 ^ 16) (sym next_avail) low),
         rest.1,
       ),
       (
         (
-          subst (λ (n : ℕ). 1 ≤ n) (sym one.max_in_flight) (one_at_least old.max_in_flight),
-          subst (λ (n : ℕ). n ≤ k.layout.size) (sym one.max_in_flight)
-              (no_more_than old.max_in_flight k.layout.size (subst (λ (n : ℕ). old.max_in_flight ≤ n) size one.few) k.layout.sized),
+          subst (λ (n : ℕ). 1 ≤ n) (sym most) (one_at_least old.max_in_flight),
+          subst (λ (n : ℕ). n ≤ k.layout.size) (sym most)
+              (no_more_than old.max_in_flight k.layout.size (subst (λ (n : ℕ). old.max_in_flight ≤ n) size one.valid.2) k.layout.sized),
         ),
         rest.2,
       ),

@@ -36,11 +36,11 @@ reported_store regions store reported (inr lost) = absurd (never lost.0)
     never is = cc
 
 pub wishes : StoresAWish
-wishes b q reported s (inl none) = absurd (refused error.BadArgument none.1)
-wishes b q reported s (inr is) = (
+wishes b q reported (inl none) = absurd (refused error.BadArgument none.1)
+wishes b q reported (inr is) = (
   is.1,
   is.2,
-  λ counted of walker.
+  λ s counted of walker.
       let asked = takers.rearms is.1 s counted of walker in
       let store = asked.0 in
       let end : ThreadedQueue = after_act (ways_of is.1) (after_act (ways_of is.1) s Wishes) WishIsThere in
@@ -58,12 +58,12 @@ flag_is true = refl
 flag_is false = refl
 
 pub checks : NotifyIsACheck
-checks b b' q q' seen notify u (inl none) fits = absurd (refused error.BadArgument none.2.0)
-checks b b' q q' seen notify u (inr is) fits = elim is.3 [
+checks b b' q q' seen notify (inl none) fits = absurd (refused error.BadArgument none.2.0)
+checks b b' q q' seen notify (inr is) fits = elim is.3 [
   | inl ended ↦ (
     is.1,
     is.2,
-    λ small at one shows.
+    λ u small at one shows.
         let same : from_le_bytes w16 (to_le_bytes w16 seen) ≡ seen = from_le_bytes-to_le_bytes_2 seen fits in
         let check = givers.checks is.1 (to_le_bytes w16 seen) u small (subst (λ (n : ℕ). n < 2 ^ 16) (sym same) fits) at one shows in
         check ∙ ap (λ (n : Bool). u.owes || n) (sym (ap (λ (n : ℕ). n == 1) ended.2 ∙ flag_is (notifies_of is.1 (to_le_bytes w16 seen)))),

@@ -12,6 +12,23 @@ use Rattle.fs_chain_c.specs.declared.queue.FsQueue.{FsQueue}
 use Rattle.fs_chain_c.specs.Queues.{IsQueue}
 use Rattle.fs_chain_c.specs.Records.{HasNoneOut, RefusesToSave, RefusesQueues}
 
+-- the numbers that lie where no queue does
+abbrev pub no_numbers : FsQueue
+no_numbers = record {
+  desc = 0;
+  avail = 0;
+  used = 0;
+  size = 0;
+  next_avail = 0;
+  next_used = 0;
+  max_in_flight = 0;
+  stopped = 0;
+  pushing = 0;
+  event_index = 0;
+  reset_count = 0;
+  pop_count = 0;
+}
+
 head_length : (page_size limit options count : ℕ) → length (spelled (head_fields (head_of (Second page_size limit) options count))) ≡ 24
 unfolding field_bytes
 head_length page_size limit options count = refl

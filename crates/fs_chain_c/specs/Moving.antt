@@ -22,6 +22,10 @@ AreQueueStates [] (k ∷ ks) = ⊥
 AreQueueStates (q ∷ qs) [] = ⊥
 AreQueueStates (q ∷ qs) (k ∷ ks) = IsQueueState q k × AreQueueStates qs ks
 
+-- the numbers are those of a queue of the core's
+abbrev pub HasState : FsQueue → Type 0
+HasState q = (k : QueueState) × IsQueueState q k
+
 -- size and positions of C's numbers are of 16 bits
 abbrev pub HasItsWidths : FsQueue → Type 0
 HasItsWidths q = (q.size < 2 ^ 16) × (q.next_avail < 2 ^ 16) × (q.next_used < 2 ^ 16)

@@ -28,22 +28,24 @@ StoresItsWish b k s reported =
 -- the store that C makes before a thread sleeps is the model's wish for the next chain
 abbrev pub StoresAWish : Type 0
 StoresAWish =
-    (b : ChainHandle) (q : FsQueue) (reported : FsStore) (s : ThreadedQueue)
+    (b : ChainHandle) (q : FsQueue) (reported : FsStore)
     → SetsNotification b q 1 reported 0
     → (k : QueueState)
     × IsQueueState q k
-    × (HasU16Numbers k → IsModelOf k s → s.holder ≡ Walker → StoresItsWish b k s reported)
+    × ((s : ThreadedQueue)
+    → HasU16Numbers k → IsModelOf k s → s.holder ≡ Walker → StoresItsWish b k s reported)
 
 -- `notify` is the result of the check by the model's giver, of the two bytes that C has loaded behind the
 -- barrier
 abbrev pub NotifyIsACheck : Type 0
 NotifyIsACheck =
-    (b b' : ChainHandle) (q q' : FsQueue) (seen notify : ℕ) (u : NotifyState)
+    (b b' : ChainHandle) (q q' : FsQueue) (seen notify : ℕ)
     → EndsHandlePush b q seen notify 0 b' q'
     → seen < 2 ^ 16
     → (k : QueueState)
     × IsQueueState q k
-    × (k.next_used < 2 ^ 16
+    × ((u : NotifyState)
+    → k.next_used < 2 ^ 16
     → u.published ≡ (gave k).next_used
     → u.unchecked ≡ 1
     → ShowsWish k (to_le_bytes w16 seen) u.event u.muted

@@ -1,32 +1,16 @@
 -- Queues as numbers that C keeps, and as the core has them.
-use Rattle.std.specs.Prelude.{◌≡◌, ◌⊎◌, ◌==◌, ◌<◌, ◌≤◌, ◌+◌, ◌%◌, ◌^◌, max, ℕ, Bool, true, false, Option}
-use Rattle.std.specs.Prelude.{Some, None, IsSome, if◌then◌else◌}
+use Rattle.std.specs.Prelude.{◌≡◌, ◌⊎◌, ◌<◌, ◌≤◌, ◌+◌, ◌%◌, ◌^◌, max, ℕ, Bool, true, false, Option}
+use Rattle.std.specs.Prelude.{Some, None}
 use Rattle.fs_queue.specs.Lawful.{layout_error}
 use Rattle.fs_queue.specs.Numbers.{queue_number}
 use Rattle.fs_queue.specs.declared.fault.QueueError.{QueueError}
-use Rattle.fs_queue.specs.declared.fault.QueueError.TheVariants as stop
 use Rattle.live_machine.specs.Several.{in_flight_between}
 use Rattle.fs_chain.specs.declared.error.ChainError.TheVariants.{BadArgument}
 use Rattle.fs_chain.specs.declared.queue.QueueState.{QueueState}
 use Rattle.fs_chain.specs.Numbers.{chain_error_number}
 use Rattle.fs_chain_c.specs.declared.queue.FsQueue.{FsQueue}
 
--- the refusal of a number of `stopped`: 2 to 8 stopped the queue; 1 is a refusal that a record doesn't keep;
--- 0 is none; no other number is valid
-abbrev pub stop_of : ℕ → Option (Option QueueError)
-stop_of n =
-    if n == 0 then Some None
-    else if n == 1 then Some (Some stop.Stopped)
-    else if n == 2 then Some (Some stop.AvailIndexUnreachable)
-    else if n == 3 then Some (Some stop.AvailTooFar)
-    else if n == 4 then Some (Some stop.RingEntryUnreachable)
-    else if n == 5 then Some (Some stop.HeadOutOfTable)
-    else if n == 6 then Some (Some stop.UsedUnreachable)
-    else if n == 7 then Some (Some stop.AvailFlagsUnreachable)
-    else if n == 8 then Some (Some stop.DescriptorUnreachable)
-    else None
-
--- the number of the refusal that stopped a queue; 0 is none
+-- the number of the refusal that stopped a queue: 2 to 8; 1 is one that a record doesn't keep; 0 is none
 abbrev pub stop_number : Option QueueError → ℕ
 stop_number None = 0
 stop_number (Some e) = queue_number e
@@ -46,31 +30,34 @@ IsQueue q =
     × (q.max_in_flight ≤ q.size)
     × (q.pushing ≤ 1)
     × (q.event_index ≤ 1)
-    × IsSome (stop_of q.stopped)
+    × (q.stopped ≤ 8)
 
 -- these are the numbers of a queue that was begun: of one whose numbers were never set, reset_count is 0
 abbrev pub IsBegun : FsQueue → Type 0
 IsBegun q = IsQueue q × (0 < q.reset_count)
 
--- the core's queue has these numbers
+-- the numbers of one of the core's queues
+abbrev pub numbers_of : QueueState → FsQueue
+numbers_of k =
+    record {
+      desc = k.layout.desc;
+      avail = k.layout.avail;
+      used = k.layout.used;
+      size = k.layout.size;
+      next_avail = k.next_avail;
+      next_used = k.next_used;
+      max_in_flight = k.max_in_flight;
+      stopped = stop_number k.stopped;
+      pushing = flag k.pushing;
+      event_index = flag k.event_index;
+      reset_count = k.reset_count;
+      pop_count = k.pop_count;
+    }
+
+-- the core's queue has these numbers; a maximum of 0 counts as 1
 pub record IsQueueState (q : FsQueue) (k : QueueState) : Type 0 where
-  pub lawful : layout_error q.size q.desc q.avail q.used ≡ None
-  pub size : k.layout.size ≡ q.size
-  pub desc : k.layout.desc ≡ q.desc
-  pub avail : k.layout.avail ≡ q.avail
-  pub used : k.layout.used ≡ q.used
-  pub next_avail : k.next_avail ≡ q.next_avail
-  pub next_used : k.next_used ≡ q.next_used
-  pub out : chains_in_flight q ≤ q.size
-  pub max_in_flight : k.max_in_flight ≡ max 1 q.max_in_flight
-  pub few : q.max_in_flight ≤ q.size
-  pub pushing : k.pushing ≡ (q.pushing == 1)
-  pub bit : q.pushing ≤ 1
-  pub event_index : k.event_index ≡ (q.event_index == 1)
-  pub event_bit : q.event_index ≤ 1
-  pub reset_count : k.reset_count ≡ q.reset_count
-  pub pop_count : k.pop_count ≡ q.pop_count
-  pub stopped : stop_of q.stopped ≡ Some k.stopped
+  pub valid : IsQueue q
+  pub numbers : numbers_of k ≡ record q { max_in_flight = max 1 q.max_in_flight }
 
 -- a queue's numbers with those that a call changes
 abbrev pub put : FsQueue → QueueState → FsQueue

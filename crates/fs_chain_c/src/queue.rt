@@ -1,8 +1,8 @@
 //! Queues as numbers that C keeps.
 
-ghost use Rattle.std.specs.Prelude.{◌≡◌, false, true, IfSome, IfNone, OnSome};
+ghost use Rattle.std.specs.Prelude.{◌≡◌, ◌≤◌, ◌<◌, false, true, IfSome, IfNone, OnSome};
 ghost use Rattle.fs_chain_c.specs.Queues.{IsBegun, IsQueueState, IsQueue, reset_to, chains_in_flight, put};
-ghost use Rattle.fs_chain_c.specs.Queues.{stop_number, stop_of};
+ghost use Rattle.fs_chain_c.specs.Queues.{stop_number};
 
 use fs_chain::QueueState;
 use fs_queue::{QueueError, QueueLayout};
@@ -39,7 +39,8 @@ pub struct FsQueue {
 
 // The refusal of a number of `stopped`, if there is one; 0 is none.
 fn stop_of(number: u16) -> Option<Option<QueueError>>
-    ensures { result ≡ stop_of number }
+    ensures some { IfSome result (λ stopped. (stop_number stopped ≡ number) × (number ≤ 8)) }
+    ensures none { IfNone result (8 < number) }
 {
     match number {
         0 => Some(None),

@@ -1,9 +1,8 @@
 //! Calls of the exports that meet the hypotheses of `law_moves`. C doesn't call these.
 
 ghost use Rattle.std.specs.Prelude.{◌≡◌, true, All, take};
-ghost use Rattle.fs_chain_c.specs.Moving.{HasItsWidths};
+ghost use Rattle.fs_chain_c.specs.Moving.{HasItsWidths, HasState};
 ghost use Rattle.fs_chain_c.specs.MovesCalled.{MovesQueues, RestoresQueues, SavesQueues};
-ghost use Rattle.fs_chain_c.specs.Queues.{IsQueue};
 ghost use Rattle.fs_chain_c.specs.Records.{Restores};
 
 use crate::queues::{pk_restore_unnumbered, pk_save};
@@ -15,16 +14,16 @@ use std::alloc::Global;
 
 // Whether the numbers of each queue are valid.
 fn are_queues(queues: &[FsQueue]) -> bool
-    ensures are { result ≡ true → All IsQueue queues.now }
+    ensures are { result ≡ true → All HasState queues.now }
     ensures fit { result ≡ true → All HasItsWidths queues.now }
 {
     for queue in queues {
         let _size = queue.size;
         let _next = queue.next_avail;
         let _used = queue.next_used;
-        if queue.preserved().is_none() {
+        let Some(_state) = queue.preserved() else {
             return false;
-        }
+        };
     }
     true
 }
@@ -56,7 +55,7 @@ fn restore_valid(
 ) -> u32
     ensures restores { result ≡ 0
         → Restores device.old queues.old saved.now 0 count.new device.new queues.new }
-    ensures are { result ≡ 0 → All IsQueue (take count.new queues.new) }
+    ensures are { result ≡ 0 → All HasState (take count.new queues.new) }
 {
     let status = pk_restore_unnumbered(alloc, device, queues, saved, count);
     if status != 0 {

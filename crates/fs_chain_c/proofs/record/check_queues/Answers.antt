@@ -3,8 +3,7 @@ use Rattle.std.proofs.lemmas.List.{get_or_default, take_all}
 use Rattle.std.proofs.lemmas.List.Elements.{All-more}
 use Rattle.fs_chain_c.specs.Queues.{IsQueue}
 use Rattle.fs_chain_c.specs.Records.{HasNoneOut}
-use Rattle.fs_chain_c.proofs.QueueStates.{no_numbers}
-use Rattle.fs_chain_c.proofs.RecordLemmas.{first_refused}
+use Rattle.fs_chain_c.proofs.RecordLemmas.{first_refused, no_numbers}
 use Rattle.fs_chain_c.proofs.record.check_queues.Goals as goal
 
 pub returns-in-Err-clause-why : goal.returns-in-Err-clause-why

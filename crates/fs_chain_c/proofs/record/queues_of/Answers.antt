@@ -3,7 +3,7 @@ use Rattle.std.proofs.lemmas.Grind.{common_steps}
 use Rattle.std.proofs.lemmas.List.Elements.{All-more}
 use Rattle.fs_chain_c.specs.Queues.{IsQueue}
 use Rattle.fs_chain_c.specs.Records.{HasNoneOut}
-use Rattle.fs_chain_c.proofs.QueueStates.{no_numbers}
+use Rattle.fs_chain_c.proofs.RecordLemmas.{no_numbers}
 use Rattle.fs_chain_c.proofs.record.queues_of.Goals as goal
 
 pub loop-queue-preserved : goal.loop-queue-preserved

@@ -1,16 +1,16 @@
 use Rattle.std.proofs.Common.{arith, rules}
 use Rattle.std.proofs.lemmas.List.{take_all}
 use Rattle.std.proofs.lemmas.List.Elements.{All-more}
-use Rattle.fs_chain_c.specs.Moving.{HasItsWidths}
-use Rattle.fs_chain_c.specs.Queues.{IsQueue}
-use Rattle.fs_chain_c.proofs.QueueStates.{no_numbers}
+use Rattle.fs_chain_c.specs.Moving.{HasItsWidths, HasState}
+use Rattle.fs_chain_c.proofs.RecordLemmas.{no_numbers}
 use Rattle.fs_chain_exports.proofs.moves_called.are_queues.Goals as goal
 
 pub loop-queue-preserved : goal.loop-queue-preserved
 loop-queue-preserved c =
     let qs = c.args.queues.now in
     let i = c.loop-queue.queue-index in (
-      All-more IsQueue qs i no_numbers c.loop-queue-test.true c.loop-queue.invariant.0 (search rules),
+      All-more HasState qs i no_numbers c.loop-queue-test.true c.loop-queue.invariant.0
+          (c.in-Some._state, c.in-Some.ensures.preserved),
       All-more HasItsWidths qs i no_numbers c.loop-queue-test.true c.loop-queue.invariant.1 (search rules),
     )
 
