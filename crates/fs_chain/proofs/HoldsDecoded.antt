@@ -1,17 +1,20 @@
 -- The decoding of a chain that the handle holds.
 use Rattle.std.proofs.Common.{arith, append-nil, ◌≡◌, ◌+◌, ◌≤◌, ◌^◌, ℕ, Bool, List, [], ◌∷◌, ◌++◌, length, Option, Some, None, refl, subst}
-use Rattle.std.proofs.Common.{sym, ap, ◌∙◌}
+use Rattle.std.proofs.Common.{sym, ap, take, ◌∙◌}
 use Rattle.std.specs.Prelude.{drop, IfOk, OnOk, Result, Ok, Err}
 use Rattle.fs_queue.specs.Taking.{addresses_of, readable, total_len, writable}
 use Rattle.fuse_fs.specs.Calls.{FileCall}
 use Rattle.fuse_values.specs.Values.{call_of}
 use Rattle.fuse_values.specs.declared.call.FileCall as made_call
 use Rattle.virtiofsd_fuse.specs.Grammar.{Asks, FileCommand, Lists, Meaning, One, Starts, meaning}
+use Rattle.virtiofsd_fuse.specs.Listings.{ListRequest}
 use Rattle.virtiofsd_fuse.specs.Serving.{ServedMessage, Setting, served, setting}
 use Rattle.virtiofsd_fuse.specs.Serving as serving_words
 use Rattle.virtiofsd_fuse.proofs.Serve.{served_fits}
 use Rattle.server_phases.specs.Asking.{IsDecoded, IsRequestFront}
+use Rattle.server_phases.specs.Gathering.{IsListingFor}
 use Rattle.server_phases.specs.Waiting.{first_call}
+use Rattle.server_phases.specs.declared.listing.Listing.{Listing}
 use Rattle.server_phases.specs.declared.session.Session.{Session}
 use Rattle.live_machine.specs.Live.{DecodesRequest, Fetched, Happens, InFlightChain, Phase, after_decoding, asked_chain, room_of}
 use Rattle.live_machine.specs.Live.{room_of_phase}
@@ -71,6 +74,12 @@ DecodedSo page_size options request c out made st session =
     []).calls)
     × IsHeldIn page_size (asked_chain c request options []) (asked_chain c request options []).phase st session
 
+list_command : (l : Listing) (room : ℕ) (command : FileCommand) → IsListingFor l room command →
+    (unique : ℕ) × (a : ListRequest) × (command ≡ Lists unique a) × IsListingFor l room (Lists unique a)
+list_command l room (One unique call) is = absurd is
+list_command l room (Starts unique capable readahead) is = absurd is
+list_command l room (Lists unique a) is = (unique, a, refl, is)
+
 by_call : (page_size options : ℕ) (request : List ℕ) (c : InFlightChain) (out : InFlight) (made : made_call.FileCall)
     (st : state.ChainState) (session : Session) → IsOutAs c out → IsDecodedIn page_size options session
     → KeepsCall (setting page_size options out.room_len) (meaning options request out.room_len) (drop 80 request) made out st
@@ -99,6 +108,7 @@ by_call page_size options request c out made (at.Waits preserved w) session is_o
     )
 by_call page_size options request c out made (at.Lists preserved l) session is_out decoded keeps =
     let a = keeps.1 in
+    let list = list_command l out.room_len a.0 a.4 in
     let P : InFlight → Type 0 = λ o. IsHeldIn page_size (asked_chain c request options []) (asked_chain c request options []).phase
     (at.Lists o l) session in (
       call_waits (setting page_size options out.room_len) (meaning options request out.room_len) a.0 (call_of (drop 80 request) made) a.1
@@ -112,10 +122,14 @@ by_call page_size options request c out made (at.Lists preserved l) session is_o
           room_len = is_out.room_len;
           small = is_out.small;
         },
-        refl,
         decoded,
-        made,
-        a,
+        list.0,
+        list.1,
+        a.1 ∙ ap Asks list.2,
+        list.3,
+        [],
+        [],
+        record { long = a.5; stands = ap (λ (n : ℕ). take n []) a.5 },
       ),
     )
 by_call page_size options request c out made st session is_out decoded keeps = absurd keeps

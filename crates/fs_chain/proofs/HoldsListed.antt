@@ -3,7 +3,7 @@ use Rattle.std.proofs.Common.{◌≡◌, ◌+◌, ℕ, List, [], ◌∷◌, ◌+
 use Rattle.std.proofs.Common.{refl, subst, sym, ap, ◌∙◌, inl, inr, length-append}
 use Rattle.std.specs.Prelude.{IsTrue, IfOk}
 use Rattle.fuse_fs.specs.Calls.{FileAnswer, FileCall, suits, Entries}
-use Rattle.virtiofsd_fuse.specs.Grammar.{Asks, FileCommand, Lists, Meaning, One, Starts, meaning}
+use Rattle.virtiofsd_fuse.specs.Grammar.{Asks, Lists, Meaning, meaning}
 use Rattle.virtiofsd_fuse.specs.Listings.{ListRequest, readdir_call}
 use Rattle.virtiofsd_fuse.specs.Serving.{Setting, ServedMessage, commanded, served, setting}
 use Rattle.virtiofsd_fuse.proofs.Serve.{served_fits}
@@ -13,11 +13,11 @@ use Rattle.server_phases.specs.Gathering.{entries_of}
 use Rattle.server_phases.specs.declared.listing.Listing.{Listing}
 use Rattle.server_phases.specs.declared.listing.ListingReply.{ListingReply}
 use Rattle.plain_machine.specs.Step.{Calls, answers_alone, calls_alone}
-use Rattle.live_machine.specs.Live.{Abandoned, Asked, Fetched, InFlightChain, Own, Phase, PoppedFaulty, room_of, room_of_phase}
+use Rattle.live_machine.specs.Live.{Asked, InFlightChain, Phase, room_of, room_of_phase}
 use Rattle.live_machine.proofs.EachCall.{each_waits_first}
 use Rattle.fs_chain.specs.Holds.{IsDecodedIn, IsHeldIn, IsPastFirstCall, KeepsReplyOf, Machine, served_so}
 use Rattle.fs_chain.specs.HoldsListings.{AddingIs, AddsEntry, BeginsListing, EndsListing, FailsListing, HasListed, HoldsListing, IsLeftOut}
-use Rattle.fs_chain.specs.HoldsListings.{LeavesOut}
+use Rattle.fs_chain.specs.HoldsListings.{LeavesOut, ListingIsHeld}
 use Rattle.fs_chain.specs.HoldsListings.{ListingCallIs, LooksUp, MayEnd, MayFail, ReadsDirectory, calls_left_out}
 use Rattle.fs_chain.specs.Listings.{AddsTo, EndsByEntries, EndsByError, IsFailedReply, IsListReply, RepliesBy, answered_by}
 use Rattle.fs_chain.specs.Orders.{front_len}
@@ -236,41 +236,32 @@ fails_listing errno old new len ends page_size c es ending calls list h may is =
 
 -- ---- the file calls
 
-list_command : (l : Listing) (room : ℕ) (command : FileCommand) → IsListingFor l room command →
-    (unique : ℕ) × (a : ListRequest) × (command ≡ Lists unique a) × IsListingFor l room (Lists unique a)
-list_command l room (One unique call) is = absurd is
-list_command l room (Starts unique capable readahead) is = absurd is
-list_command l room (Lists unique a) is = (unique, a, refl, is)
-
-begun_in : (page_size : ℕ) (c : InFlightChain) (p : Phase) (w : ChainHandle) (out : InFlight) (l : Listing) (list : List ℕ) → c.phase ≡ p
-    → w.state ≡ at.Lists out l → IsHeldIn page_size c p (at.Lists out l) w.session → HoldsListing page_size c [] [] list w
-begun_in page_size c (Asked request options calls) w out l list phase is held =
-    let asks = held.4 in
-    let command = list_command l out.room_len asks.0 asks.4 in
+pub begins_listing : BeginsListing
+begins_listing page_size c w out l request list options is empty phase held =
+    let here : IsHeldIn page_size c (Asked request options []) (at.Lists out l) w.session =
+    subst (λ (p : Phase). IsHeldIn page_size c p (at.Lists out l) w.session) phase
+    (subst (λ (st : state.ChainState). IsHeldIn page_size c c.phase st w.session) is held) in
     record {
       out = out;
       listing = l;
       state = is;
-      is_out = held.0;
+      is_out = here.0;
       request = request;
       options = options;
-      session = held.2;
-      unique = command.0;
-      asked = command.1;
-      means = asks.1 ∙ ap Asks command.2;
-      is_for = command.3;
-      holds = record { long = asks.5; stands = ap (λ (n : ℕ). take n list) asks.5 };
-      phase = phase ∙ ap (λ (l : Calls). Asked request options l) held.1;
+      session = here.1;
+      unique = here.2;
+      asked = here.3;
+      means = here.4;
+      is_for = here.5;
+      holds = record { long = empty; stands = ap (λ (n : ℕ). take n list) empty };
+      phase = phase;
     }
-begun_in page_size c (PoppedFaulty why) w out l list phase is held = absurd held
-begun_in page_size c Fetched w out l list phase is held = absurd held
-begun_in page_size c (Own request reply) w out l list phase is held = absurd held
-begun_in page_size c (Abandoned fault) w out l list phase is held = absurd held
 
-pub begins_listing : BeginsListing
-begins_listing page_size c w out l list is held =
-    begun_in page_size c c.phase w out l list refl is
-    (subst (λ (st : state.ChainState). IsHeldIn page_size c c.phase st w.session) is held)
+pub listing_is_held : ListingIsHeld
+listing_is_held page_size c es calls list w h =
+    subst (λ (st : state.ChainState). IsHeldIn page_size c c.phase st w.session) (sym h.state)
+    (subst (λ (p : Phase). IsHeldIn page_size c p (at.Lists h.out h.listing) w.session) (sym h.phase)
+    (h.is_out, h.session, h.unique, h.asked, h.means, h.is_for, es, list, h.holds))
 
 -- a call that waits is answered
 answered : (s : Machine) (before behind : List InFlightChain) (c : InFlightChain) (es : List Brought) (list : List ℕ) (w : ChainHandle)

@@ -14,7 +14,6 @@ use Rattle.server_phases.specs.Gathering.{is_looked_up, look_up, look_ups}
 use Rattle.server_phases.specs.declared.listing.Listing.{Listing}
 use Rattle.server_phases.proofs.Gathered.{listed_all}
 use Rattle.fs_chain.specs.ListingCalls.{all_looked_up, looked_up}
-use Rattle.fs_chain.specs.declared.listing.Added.TheVariants as added
 use Rattle.plain_machine.specs.Step.{Calls, answers_alone, calls_alone}
 use Rattle.fs_chain.specs.ListingCalls.{calls_so_far, next_looked_up}
 

@@ -24,10 +24,13 @@ use Rattle.fuse_values.specs.Answers.{answer_of}
 use Rattle.fuse_values.specs.Values.{call_of}
 use Rattle.fuse_values.specs.declared.answer.FileAnswer as made_answer
 use Rattle.fuse_values.specs.declared.call.FileCall as made_call
-use Rattle.virtiofsd_fuse.specs.Grammar.{meaning}
+use Rattle.virtiofsd_fuse.specs.Grammar.{Asks, Lists, meaning}
+use Rattle.virtiofsd_fuse.specs.Listings.{ListRequest}
 use Rattle.virtiofsd_fuse.specs.Serving.{ServedMessage, served, setting}
 use Rattle.server_phases.specs.Answering.{ReportsBytes, forget_calls}
 use Rattle.server_phases.specs.Asking.{AsksCall, IsRequestFront}
+use Rattle.server_phases.specs.Gathering.{Brought, IsListingFor}
+use Rattle.server_phases.specs.Gathering as gathering
 use Rattle.server_phases.specs.declared.session.Session.{Session}
 use Rattle.plain_machine.specs.Step.{Calls, Exchange, answers_alone, calls_alone}
 pub use Rattle.live_machine.specs.Files.{any_files}
@@ -40,7 +43,7 @@ use Rattle.live_machine.specs.Live.{PushesChain}
 use Rattle.live_machine.specs.Live.{ReceivesAnswer, RefusesPop, after_answer, after_decoding, after_pop}
 use Rattle.live_machine.specs.Live.{after_push}
 use Rattle.live_machine.specs.Live.{asked_chain, new_chain, pop_refusal}
-use Rattle.fs_chain.specs.Decoding.{AsksListing, WaitsForNoListing}
+use Rattle.fs_chain.specs.Decoding.{WaitsForNoListing}
 use Rattle.fs_chain.specs.Loads.{whole}
 use Rattle.fs_chain.specs.Orders.{front_of, reply_len}
 pub use Rattle.fs_chain.specs.Queues.{live_of}
@@ -107,7 +110,8 @@ abbrev pub IsDecodedIn : (page_size options : ℕ) → Session → Type 0
 IsDecodedIn page_size options session = (session.page_size ≡ page_size) × (session.options.0 ≡ options)
 
 -- a chain in this phase is in a handle in this state, with this session. Its reply is a part of what the
--- phase says: by its answered calls, or its caller's own bytes
+-- phase says: by its answered calls, or its caller's own bytes. A listing has its entries in a list of the
+-- caller's, from before the first to its end
 abbrev pub IsHeldIn : (page_size : ℕ) → InFlightChain → Phase → state.ChainState → Session → Type 0
 IsHeldIn page_size c Fetched (at.Taken out) session = IsOutAs c out
 IsHeldIn page_size c (PoppedFaulty why) (at.HasReply out preserved) session =
@@ -127,12 +131,14 @@ IsHeldIn page_size c (Asked request options calls) (at.Waits out waiting) sessio
     × WaitsForNoListing waiting
 IsHeldIn page_size c (Asked request options calls) (at.Lists out listing) session =
     IsOutAs c out
-    × (calls ≡ [])
     × IsDecodedIn page_size options session
-    × (made : made_call.FileCall)
-    × AsksListing (setting page_size options out.room_len) (meaning options request out.room_len)
-    (drop 80 request) made
-    listing
+    × (unique : ℕ)
+    × (asked : ListRequest)
+    × (meaning options request out.room_len ≡ Asks (Lists unique asked))
+    × IsListingFor listing out.room_len (Lists unique asked)
+    × (es : List Brought)
+    × (list : List ℕ)
+    × gathering.Holds listing list es
 IsHeldIn page_size c (Asked request options calls) (at.HasReply out preserved) session =
     IsOutAs c out
     × KeepsReplyOf (served_so page_size options request out.room_len calls).reply out preserved

@@ -120,10 +120,21 @@ FailsListing errno old new len =
 -- a handle that decoded a listing gathers it, in any list
 abbrev pub BeginsListing : Type 0
 BeginsListing =
-    (page_size : ℕ) (c : InFlightChain) (w : ChainHandle) (out : InFlight) (listing : Listing) (list : List ℕ)
-    → w.state ≡ at.Lists out listing →
+    (page_size : ℕ) (c : InFlightChain) (w : ChainHandle) (out : InFlight) (listing : Listing)
+    (request list : List ℕ) (options : ℕ) →
+    w.state ≡ at.Lists out listing →
+    listing.len ≡ 0 →
+    c.phase ≡ Asked request options [] →
     HoldsChain page_size c w →
     HoldsListing page_size c [] [] list w
+
+-- one that gathers a listing holds its chain, as among several handles
+abbrev pub ListingIsHeld : Type 0
+ListingIsHeld =
+    (page_size : ℕ) (c : InFlightChain) (es : List Brought) (calls : Calls) (list : List ℕ)
+    (w : ChainHandle) →
+    HoldsListing page_size c es calls list w →
+    HoldsChain page_size c w
 
 -- a call of the listing is answered: the event `ReceivesAnswer`. The handle holds what it held
 abbrev pub ListingCallIs : (s : Machine) (before behind : List InFlightChain) (c : InFlightChain)

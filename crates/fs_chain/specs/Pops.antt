@@ -2,7 +2,7 @@
 use Rattle.std.specs.Prelude.{◌≡◌, ℕ, List, []}
 use Rattle.fs_queue.specs.Chain.{Descriptor}
 use Rattle.fs_regions.specs.declared.step.CourseStep as comes
-use Rattle.fs_regions.specs.Walks.{Loaded, nothing, AddsBytes}
+use Rattle.fs_regions.specs.Walks.{Loaded, AddsBytes}
 use Rattle.fs_chain.specs.declared.queue.QueueState.{QueueState}
 use Rattle.fs_chain.specs.declared.state.ChainState as state
 use Rattle.fs_chain.specs.declared.state.ChainState.TheVariants as at
@@ -10,7 +10,7 @@ use Rattle.fs_chain.specs.declared.popping.PopOutcome.TheVariants as shows
 use Rattle.fs_chain.specs.declared.loads.LoadOutcome as outcome
 use Rattle.fs_chain.specs.declared.loads.LoadOutcome.TheVariants as outcomes
 use Rattle.fs_chain.specs.declared.chain_handle.ChainHandle.{ChainHandle}
-use Rattle.fs_chain.specs.Loads.{ProceedsSo, whole}
+use Rattle.fs_chain.specs.Loads.{ProceedsSo}
 use Rattle.fs_chain.specs.Walks.{reported_of}
 
 -- a call of `pop` asks for bytes

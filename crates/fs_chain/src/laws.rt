@@ -1,7 +1,8 @@
 //! Theorems about the definitions, as contracts of functions that do nothing.
 
 ghost use Rattle.fs_chain.specs.Held.{AskedIsMapped, HeldIsUnreplied, LoadsAreFew, LoadsCount};
-ghost use Rattle.fs_chain.specs.HoldsListings.{BeginsListing, LeavesOut, LooksUp, ReadsDirectory};
+ghost use Rattle.fs_chain.specs.HoldsListings.{BeginsListing, LeavesOut, ListingIsHeld, LooksUp};
+ghost use Rattle.fs_chain.specs.HoldsListings.{ReadsDirectory};
 ghost use Rattle.fs_chain.specs.Laws.{WalksAreOffers};
 ghost use Rattle.fs_chain.specs.Together.{FindsOwn, JoinsOthers, KeepsOthers, LeavesOthers};
 
@@ -35,11 +36,12 @@ pub fn law_held()
     ensures unreplied { HeldIsUnreplied }
 {}
 
-/// The file calls of a listing that a handle gathers. Each is answered without the handle, which holds the
-/// same afterwards: the reading of the directory, the look-ups of its entries, and the FORGET of an entry
-/// that isn't added.
+/// The file calls of a listing that a handle gathers, whose chain it holds until the end. Each is answered
+/// without the handle, which holds the same afterwards: the reading of the directory, the look-ups of its
+/// entries, and the FORGET of an entry that isn't added.
 pub fn law_listings()
     ensures begins { BeginsListing }
+    ensures held { ListingIsHeld }
     ensures reads { ReadsDirectory }
     ensures looks_up { LooksUp }
     ensures leaves_out { LeavesOut }

@@ -236,26 +236,24 @@ fetched_ready page_size n k q push c p st session is held =
     by_state page_size n c (at.Walking course pop_id walk) session held = tt
     by_state page_size n c (at.Taken out) session held = tt
     by_state page_size n c (at.Waits out w) session held = tt
-    by_state page_size n c (at.Lists out l) session held = tt
+    by_state page_size n c (at.Lists out l) session held = absurd held
 
--- ---- a handle that pushes nothing
+-- ---- a handle that pushes nothing, and lists nothing
 
 abbrev pub HasNoPush : state.ChainState → Type 0
 HasNoPush (at.Pushing out) = ⊥
+HasNoPush (at.Lists out listing) = ⊥
 HasNoPush _ = Unit {0}
-
-call_no_push : (s : Setting) (m : Meaning) (bytes : List ℕ) (made : made_call.FileCall) (out : InFlight)
-    (st : state.ChainState) → KeepsCall s m bytes made out st → HasNoPush st
-call_no_push s m bytes made out (at.Pushing o) keeps = absurd keeps
-call_no_push s m bytes made out _ keeps = tt
 
 pub reply_no_push : (s : Setting) (m : Meaning) (bytes : List ℕ) (out : InFlight) (st : state.ChainState) →
     KeepsReply s m bytes out st → HasNoPush st
 reply_no_push s m bytes out (at.Pushing o) keeps = absurd keeps
+reply_no_push s m bytes out (at.Lists o l) keeps = absurd keeps
 reply_no_push s m bytes out _ keeps = tt
 
 pub replied_no_push : (reply bytes : List ℕ) (st : state.ChainState) → IsRepliedWith reply bytes st → HasNoPush st
 replied_no_push reply bytes (at.Pushing o) is = absurd is
+replied_no_push reply bytes (at.Lists o l) is = absurd is
 replied_no_push reply bytes _ is = tt
 
 -- a chain without a pending call can be pushed
@@ -270,14 +268,18 @@ done_ready page_size k q push c request options calls (at.HasReply out preserved
   (done, refl),
 )
 done_ready page_size k q push c request options calls (at.Pushing out) done quiet = absurd quiet
+done_ready page_size k q push c request options calls (at.Lists out l) done quiet = absurd quiet
 done_ready page_size k q push c request options calls _ done quiet = tt
 
-pub call_waits : (page_size k : ℕ) (q : QueueState) (push : Option Begun) (c : InFlightChain) (s : Setting)
-    (m : Meaning) (bytes : List ℕ) (made : made_call.FileCall) (out : InFlight) (st : state.ChainState)
-    → KeepsCall s m bytes made out st → IsReady page_size k q push c st
-call_waits page_size k q push c s m bytes made out (at.HasReply o preserved) keeps = absurd keeps
-call_waits page_size k q push c s m bytes made out (at.Pushing o) keeps = absurd keeps
-call_waits page_size k q push c s m bytes made out _ keeps = tt
+pub call_waits : (page_size k : ℕ) (q : QueueState) (push : Option Begun) (c : InFlightChain) (request : List ℕ)
+    (options : ℕ) (s : Setting) (m : Meaning) (bytes : List ℕ) (made : made_call.FileCall) (out : InFlight)
+    (st : state.ChainState) → KeepsCall s m bytes made out st
+    → IsReady page_size k q push (asked_chain c request options []) st
+call_waits page_size k q push c request options s m bytes made out (at.HasReply o preserved) keeps = absurd keeps
+call_waits page_size k q push c request options s m bytes made out (at.Pushing o) keeps = absurd keeps
+call_waits page_size k q push c request options s m bytes made out (at.Lists o l) keeps =
+    (keeps.1.5, request, options, refl)
+call_waits page_size k q push c request options s m bytes made out _ keeps = tt
 
 -- ---- small lemmas
 

@@ -171,7 +171,7 @@ decoded_by s i page_size k q ws ob oh pops push old new c request options (asks.
     there queue fresh same fits proceeds chains means reports =
     decoded_so s i page_size k q ws ob oh pops push old new c request options (asks.Call made) T all there
     queue same fits proceeds
-    (call_waits page_size k q push (asked_chain c request options []) st m bytes made out new.state means)
+    (call_waits page_size k q push c request options st m bytes made out new.state means)
     reports
 decoded_by s i page_size k q ws ob oh pops push old new c request options asks.Nothing st m bytes out T all
     there queue fresh same fits proceeds chains means reports =

@@ -29,13 +29,12 @@ use Rattle.fs_driven.specs.Reported.{DrivesOne, GatherReports, RefusesEntries, t
 use Rattle.fs_driven.specs.declared.commands.Command.TheVariants as does
 use Rattle.fs_driven.specs.declared.commands.Returned.TheVariants as gives
 use Rattle.fs_driven.specs.declared.entries.ListedEntry.{ListedEntry}
-use Rattle.fs_chain.proofs.HoldsListed.{begins_listing}
 use Rattle.fs_chain.proofs.Together.{chains_of}
 use Rattle.fs_driven.proofs.Answering.{answered_all}
 use Rattle.fs_driven.proofs.Calls.{no_error, refuses, same_held}
 use Rattle.fs_driven.proofs.ListingCalls.{came_to_end}
 use Rattle.fs_driven.proofs.Handles.{has_own, not_free}
-use Rattle.fs_driven.proofs.Listings.{WasListing, no_push, not_err, was_listing}
+use Rattle.fs_driven.proofs.Listings.{WasListing, begun_listing, no_push, not_err, was_listing}
 
 -- ---- what was a listing
 
@@ -128,7 +127,7 @@ gathered_drives page_size old mid new q serial before list entries names failure
     let c = own_one.0 in
     let has = has_own s i page_size q ws os k old c pops push all there own_one.1 in
     let mine = all.mine k old c there own_one.1 in
-    let first = begins_listing s.page_size c old was.0 was.1 before was.2 has.holds in
+    let first = begun_listing s.page_size page_size k q push c old was.0 was.1 before was.2 mine.1 has.holds in
     let left : List Brought = drop n (all_brought entries names) in
     let came = all_in.step s.page_size c [] first tt in
     let r = came_to_end s (chains_of has.ob) (chains_of has.oh) c (take n (all_brought entries names)) left reported failure

@@ -128,6 +128,7 @@ ready_on : (page_size k : ℕ) (q q' : QueueState) (push : Option Begun) (c : In
 ready_on page_size k q q' push c (at.Pushing out) same is =
     (is.0, is.1, under_way_on k q q' c is.0 push same is.2)
 ready_on page_size k q q' push c (at.HasReply out preserved) same is = is
+ready_on page_size k q q' push c (at.Lists out listing) same is = is
 ready_on page_size k q q' push c _ same is = tt
 
 pub others_same : (page_size k : ℕ) (q q' : QueueState) (push : Option Begun) → SamePlaces q q' →
@@ -150,6 +151,7 @@ others_none page_size k q q' push push' only j c st apart is = by_state st is
     by_state : (st : state.ChainState) → IsReady page_size j q push c st → IsReady page_size j q' push' c st
     by_state (at.Pushing out) is = absurd (not_theirs is.0 push only is.2)
     by_state (at.HasReply out preserved) is = is
+    by_state (at.Lists out listing) is = is
     by_state _ is = tt
 
 -- what each event here keeps of the run, and each call of its handle

@@ -8,7 +8,7 @@ use Rattle.server_phases.specs.declared.listing.Listing.{Listing}
 use Rattle.server_phases.specs.declared.listing.ListingReply.{ListingReply}
 use Rattle.virtiofsd_fuse.specs.Listings.{readdir_call}
 use Rattle.live_machine.specs.Live.{InFlightChain, ReceivesAnswer, after_answer, asked_chain}
-use Rattle.fs_chain.specs.Holds.{Machine, Pop}
+use Rattle.fs_chain.specs.Holds.{HoldsChain, Machine, Pop}
 use Rattle.fs_chain.specs.HoldsListings.{EndsListing, FailsListing, HasListed, HoldsListing}
 use Rattle.fs_chain.specs.Listings.{EndsByEntries, EndsByError, RepliesBy}
 use Rattle.fs_chain.specs.Orders.{is_out}
@@ -25,7 +25,7 @@ use Rattle.fs_chain.specs.declared.state.ChainState.TheVariants as at
 use Rattle.fs_chain.specs.declared.state.InFlight.{InFlight}
 use Rattle.fs_driven.specs.declared.commands.Command.TheVariants as does
 use Rattle.fs_driven.specs.declared.commands.Returned.TheVariants as gives
-use Rattle.fs_driven.specs.Desks.{Begun, Driven, Leads, desk}
+use Rattle.fs_driven.specs.Desks.{Begun, Driven, IsReady, Leads, desk}
 use Rattle.fs_driven.specs.Reported.{DrivesOne, ReportsListing, turn}
 use Rattle.fs_chain.proofs.HoldsListed.{begins_listing, reads_directory}
 use Rattle.fs_chain.proofs.Together.{chains_of}
@@ -92,6 +92,15 @@ HasRead new answer len old =
     let calls = read_calls (readdir_call h.asked) answer in
     HasListed page_size (asked_chain c h.request h.options calls) calls [] h.request h.options h.out len new
 
+-- a listing whose handle a driver has
+pub begun_listing : (n page_size k : ℕ) (q : QueueState) (push : Option Begun) (c : InFlightChain) (w : ChainHandle)
+    (out : InFlight) (l : Listing) (list : List ℕ) → w.state ≡ at.Lists out l
+    → IsReady page_size k q push c w.state → HoldsChain n c w → HoldsListing n c [] [] list w
+begun_listing n page_size k q push c w out l list is ready holds =
+    let fresh : IsReady page_size k q push c (at.Lists out l) =
+    subst (λ (st : state.ChainState). IsReady page_size k q push c st) is ready in
+    begins_listing n c w out l fresh.1 list fresh.2 is fresh.0 fresh.3 holds
+
 listing_drives : (page_size : ℕ) (old new : ChainHandle) (q : QueueState) (serial : ℕ) (answer : FileAnswer)
     (P : Result ℕ ChainError → Type 0) (len : ℕ)
     → WasListing old.state → IsAllButPlace old new
@@ -109,7 +118,7 @@ listing_drives page_size old new q serial answer P len was same suited listed re
     let c = own_one.0 in
     let has = has_own s i page_size q ws os k old c pops push all there own_one.1 in
     let mine = all.mine k old c there own_one.1 in
-    let h = begins_listing s.page_size c old was.0 was.1 [] was.2 has.holds in
+    let h = begun_listing s.page_size page_size k q push c old was.0 was.1 [] was.2 mine.1 has.holds in
     let call : FileCall = readdir_call h.asked in
     let calls : Calls = read_calls call answer in
     let reads = reads_directory s (chains_of has.ob) (chains_of has.oh) c [] [] old answer has.chains h

@@ -116,6 +116,7 @@ popped_ready page_size n k q push c None st session is quiet held =
 popped_ready page_size n k q push c (Some why) (at.HasReply out preserved) session is quiet held =
     (faulty c.head why, subst (λ (p : Phase). PushedWith page_size c p (faulty c.head why)) (sym is) refl)
 popped_ready page_size n k q push c (Some why) (at.Pushing out) session is quiet held = absurd quiet
+popped_ready page_size n k q push c (Some why) (at.Lists out l) session is quiet held = absurd quiet
 popped_ready page_size n k q push c (Some why) _ session is quiet held = tt
 
 -- what a pop keeps

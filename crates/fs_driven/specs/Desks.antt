@@ -9,7 +9,7 @@ use Rattle.fs_queue.specs.ReturningView.{stores_of}
 use Rattle.fs_regions.specs.Places.{places_in}
 use Rattle.plain_machine.specs.Step.{Exchange}
 use Rattle.live_machine.specs.Several.{LiveQueue, in_flight, returning}
-use Rattle.live_machine.specs.Live.{Abandoned, InFlightChain, LiveEvent, LiveRun, PushedWith}
+use Rattle.live_machine.specs.Live.{Abandoned, Asked, InFlightChain, LiveEvent, LiveRun, PushedWith}
 use Rattle.fs_chain.specs.Holds.{HoldsPop, IsPopOf, IsQueue, Machine, Pop, any_files, live_of}
 pub use Rattle.fs_chain.specs.Holds.{no_pop}
 use Rattle.fs_chain.specs.Orders.{is_out}
@@ -55,12 +55,15 @@ abbrev pub IsUnderWay : ℕ → QueueState → InFlightChain → Exchange → Op
 IsUnderWay k q c x None = ⊥
 IsUnderWay k q c x (Some b) = (b.handle ≡ k) × IsBegunBy q c x b
 
--- a chain whose reply is known can be pushed: each of its calls was answered
+-- a chain whose reply is known can be pushed: each of its calls was answered. One that lists has no entry,
+-- and no call of it was answered
 abbrev pub IsReady :
     (page_size k : ℕ) → QueueState → Option Begun → InFlightChain → state.ChainState → Type 0
 IsReady page_size k q push c (at.HasReply out preserved) = (x : Exchange) × PushedWith page_size c c.phase x
 IsReady page_size k q push c (at.Pushing out) =
     (x : Exchange) × PushedWith page_size c c.phase x × IsUnderWay k q c x push
+IsReady page_size k q push c (at.Lists out listing) =
+    (listing.len ≡ 0) × (request : List ℕ) × (options : ℕ) × (c.phase ≡ Asked request options [])
 IsReady page_size k q push c _ = Unit {0}
 
 -- a pop that is under way has these loads, which lead to it

@@ -1,3 +1,4 @@
+pub mod AmidListings
 pub mod HeldPop
 pub mod InARowRun
 pub mod MissedEvent

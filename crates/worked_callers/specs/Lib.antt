@@ -1,3 +1,4 @@
+pub mod AmidListings
 pub mod InARow
 pub mod Marks
 pub mod Notified

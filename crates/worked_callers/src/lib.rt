@@ -6,6 +6,7 @@
 pub mod files;
 pub mod givers;
 pub mod held;
+pub mod listings;
 pub mod live_queues;
 pub mod marks;
 pub mod missed_event;
