@@ -3,30 +3,26 @@ use Rattle.std.proofs.Common.{take, zero, suc, ◌≡◌, ℕ, Bool, true, false
 use Rattle.std.proofs.Common.{Some, None}
 use Rattle.std.specs.Prelude.{if◌then◌else◌, slice_get, not}
 use Rattle.std.specs.List.{list_all}
-use Rattle.std.proofs.lemmas.List.{map-append}
 use Rattle.vm_iotlb.specs.declared.permissions.Permissions.TheVariants.{Write}
 use Rattle.vm_memory_core.specs.Host.{Host, Place}
 use Rattle.vm_memory.specs.Layout.{Region, fits}
 use Rattle.vm_memory.specs.Memory.{Memory, location, physical, reach, stored, stored_at, stored_all}
 use Rattle.fs_queue.specs.declared.fault.QueueError.TheVariants as stop
 use Rattle.fs_queue.specs.Queue.{Queue}
-use Rattle.fs_queue.specs.Taking.{Offer, IsRequest, CannotFetch, Offers, after_refusal, offer}
+use Rattle.fs_queue.specs.Taking.{Offer, IsRequest, CannotFetch, Offers, offer}
 use Rattle.fs_queue.specs.Returning.{writes}
 use Rattle.virtiofsd_fuse.specs.Serving.{May}
 use Rattle.plain_machine.specs.declared.error.DeviceError.TheVariants as device
 use Rattle.plain_machine.specs.declared.refusal.Refusal.TheVariants as why
 use Rattle.plain_machine.specs.Step as step
-use Rattle.plain_machine.specs.Step.{State, Exchange, Calls, Idle, Refused, Exchanged, Unchanged, Returns, Exchanges, Acts, StepOf, Step}
+use Rattle.plain_machine.specs.Step.{State, Exchange, Calls, Idle, Refused, Exchanged, Returns, Exchanges, Acts, StepOf, Step}
 use Rattle.plain_machine.specs.Step.{with_queue}
 use Rattle.plain_machine.specs.Run as run
-use Rattle.plain_machine.specs.Run.{Command, Answer, Effect, GuestWrite, SetLayout, Kick, IsDecided, is_known, some_overlap, with_layout}
+use Rattle.plain_machine.specs.Run.{Command, Effect, GuestWrite, SetLayout, Kick, IsDecided, is_known, some_overlap, with_layout}
 use Rattle.plain_machine.specs.Run.{guest_written, no, effect}
-use Rattle.fs_device.specs.CommandView.{command_of}
-use Rattle.fs_shared.specs.declared.entry.JournalEntry.{JournalEntry}
-use Rattle.fs_shared.specs.Replay.{Anything, ReplayEntry, forget, Served, Stopped, Done, ReplaysKick, Plays, Replays}
+use Rattle.fs_shared.specs.Replay.{Anything, ReplayEntry, Served, Stopped, Done, ReplaysKick, Plays, Replays}
 use Rattle.fs_shared.specs.Replay as replay
-use Rattle.fs_shared.specs.Held.{FixedParts, came_of, entry_of, fixed_of, journal_of}
-use Rattle.fs_shared.proofs.Forgetting.{plays_forgets}
+use Rattle.fs_shared.specs.Held.{FixedParts, fixed_of}
 
 pub replays_push : (s mid after : State (Unit {0})) (es : List ReplayEntry) (e : ReplayEntry) → Replays s es mid →
     Plays Anything mid e.command e.outcome e.pages after → e.options ≡ after.options → Replays s (es ++ e ∷ []) after
@@ -38,19 +34,6 @@ replays_push s mid after (x ∷ es) e r plays options = (r.0, r.1, r.2, replays_
 pub replays_none : (s : State (Unit {0})) → Replays s [] s
 unfolding Replays
 replays_none s = refl
-
--- the journal with what was done last replays to what the machine holds
-pub grows : {F : Type 0} (may : May F) (start : State (Unit {0})) (s after : State F) (items room now : List JournalEntry)
-    (x : JournalEntry) → room ≡ items → now ≡ room ++ x ∷ [] →
-    Replays start (journal_of items) (forget s) → Plays may s (command_of x.command) (came_of x.outcome) x.pages.items after →
-    x.options.0 ≡ after.options →
-    Replays start (journal_of now) (forget after)
-grows may start s after items room now x same is r plays options =
-    let all : journal_of now ≡ journal_of items ++ entry_of x ∷ [] =
-    ap journal_of (is ∙ ap (λ (es : List JournalEntry). es ++ x ∷ []) same) ∙ map-append entry_of items (x ∷ []) in
-    subst (λ (es : List ReplayEntry). Replays start es (forget after)) (sym all)
-    (replays_push start (forget s) (forget after) (journal_of items) (entry_of x) r
-    (plays_forgets may s after (command_of x.command) (came_of x.outcome) x.pages.items plays) options)
 
 -- ---- what no call changes
 

@@ -29,13 +29,7 @@ kicks_keep may before after i (Ok kicked.TheVariants.Idle) does = same_fixed bef
 kicks_keep may before after i (Err device.NoSuchQueue) does = same_fixed before after does.1
 kicks_keep may before after i (Err (device.Queue stop.Stopped)) does = same_fixed before after does.1
 kicks_keep may before after i (Err (device.Queue stop.OutOfMemory)) does = same_fixed before after does.1
-kicks_keep may before after i (Err (device.Queue stop.AvailIndexUnreachable)) does = absurd does
-kicks_keep may before after i (Err (device.Queue stop.AvailTooFar)) does = absurd does
-kicks_keep may before after i (Err (device.Queue stop.RingEntryUnreachable)) does = absurd does
-kicks_keep may before after i (Err (device.Queue stop.HeadOutOfTable)) does = absurd does
-kicks_keep may before after i (Err (device.Queue stop.UsedUnreachable)) does = absurd does
-kicks_keep may before after i (Err (device.Queue stop.AvailFlagsUnreachable)) does = absurd does
-kicks_keep may before after i (Err (device.Queue stop.DescriptorUnreachable)) does = absurd does
+kicks_keep may before after i _ does = absurd does
 
 -- so does a write or another layout
 pub acts_keep : {F : Type 0} (may : May F) (before after : Held F) (command : Command) (result : Result Receipt Refusal) →
@@ -43,14 +37,7 @@ pub acts_keep : {F : Type 0} (may : May F) (before after : Held F) (command : Co
 acts_keep may before after command (Ok r) does =
     plays_keeps may before.machine after.machine command (came_of r.outcome) r.pages.items does.plays
 acts_keep may before after command (Err why.OutOfMemory) does = same_fixed before after does.1
-acts_keep may before after command (Err why.NoPlace) does = same_fixed before after does.1
-acts_keep may before after command (Err why.EmptyBlock) does = same_fixed before after does.1
-acts_keep may before after command (Err why.UnknownBlock) does = same_fixed before after does.1
-acts_keep may before after command (Err why.BadRegion) does = same_fixed before after does.1
-acts_keep may before after command (Err why.Overlap) does = same_fixed before after does.1
-acts_keep may before after command (Err why.NoRegion) does = same_fixed before after does.1
-acts_keep may before after command (Err why.BadMapping) does = same_fixed before after does.1
-acts_keep may before after command (Err why.NoSuchQueue) does = same_fixed before after does.1
+acts_keep may before after command (Err _) does = same_fixed before after does.1
 
 -- from the start the journal replays to the machine after a kick that is told so
 pub kick_replays : {F : Type 0} (may : May F) (start : Start) (s after : State F) (before now : List ReplayEntry) (i : ℕ)

@@ -7,8 +7,7 @@ use Rattle.vm_memory.specs.Layout.{Region, fits}
 use Rattle.vm_memory.specs.Memory.{reach, physical}
 use Rattle.fs_queue.specs.declared.fault.QueueError.TheVariants as stop
 use Rattle.fs_queue.specs.Queue.{Queue}
-use Rattle.fs_queue.specs.Taking.{Offer, IsRequest, CannotFetch, Refuses, Offers, offer}
-use Rattle.fs_queue.specs.Taking as taking
+use Rattle.fs_queue.specs.Taking.{Offer, IsRequest, CannotFetch, Offers, offer}
 use Rattle.fuse_fs.specs.Calls.{FileRun}
 use Rattle.virtiofsd_fuse.specs.Serving.{May}
 use Rattle.plain_machine.specs.declared.error.DeviceError.TheVariants as device
@@ -47,8 +46,7 @@ exchanges_forget may s after i q (Offers head (IsRequest request room)) calls x 
   serves = record { gives = e.serves.gives; asks = e.serves.asks; run = files_forget may s.files after.files calls e.serves.run };
   returns = returns_forget s after i q room _ e.given.options x notice e.returns;
 }
-exchanges_forget may s after i q taking.Idle calls x notice e = absurd e
-exchanges_forget may s after i q (Refuses why) calls x notice e = absurd e
+exchanges_forget may s after i q _ calls x notice e = absurd e
 
 refused_forgets : {F : Type 0} (s after next : State F) (A B : Type 0) → A × B × (after ≡ next) → A × B × (forget after ≡ forget next)
 refused_forgets {F} s after next A B t = (t.0, t.1, ap (λ (m : State F). forget m) t.2)

@@ -174,19 +174,9 @@ pub taken_waited : {F : Type 0} (s : State F) (i : ℕ) (t : Taken) → HasTaken
 taken_waited s i t has =
     is_waiting s i has.queue has.there (not_stopped s.memory s.limit has.queue t.head has.fetched has.offered) (ap is_idle has.offered)
 
-idle_stays : {F : Type 0} (may : May F) (s after : State F) (i : ℕ) (o : Option Queue) → StepOf may s i o [] Idle after → after ≡ s
-idle_stays may s after i None t = t.1.same
-idle_stays may s after i (Some q) t = t.1.same
-
 leaves : {F : Type 0} (may : May F) (s after : State F) (i : ℕ) (e : DeviceError) → Step may s i [] (Refused e) after → after ≡ s →
     StepChangesNothing may s i (Refused e) after
 leaves {F} may s after i e step same = (subst (λ (t : State F). Step may s i [] (Refused e) t) same step, same)
-
--- if nothing waits, nothing changes
-pub idle_leaves :
-    {F : Type 0} (may : May F) (s after : State F) (i : ℕ) → Step may s i [] Idle after → StepChangesNothing may s i Idle after
-idle_leaves {F} may s after i step =
-    let same = idle_stays may s after i (slice_get s.queues i) step in (subst (λ (t : State F). Step may s i [] Idle t) same step, same)
 
 -- a refusal that doesn't stop a queue changes nothing
 pub refusal_leaves : {F : Type 0} (may : May F) (s after : State F) (i : ℕ) (e : DeviceError) → is_journaled e ≡ false →
@@ -197,10 +187,4 @@ refusal_leaves may s after i (device.Queue stop.Stopped) answered step =
     leaves may s after i (device.Queue stop.Stopped) step (stopped_stays may s after i (slice_get s.queues i) refl step)
 refusal_leaves may s after i (device.Queue stop.OutOfMemory) answered step =
     (lacking_there may s after i (slice_get s.queues i) step, lacking_stays may s after i (slice_get s.queues i) step)
-refusal_leaves may s after i (device.Queue stop.AvailIndexUnreachable) answered step = absurd (cc)
-refusal_leaves may s after i (device.Queue stop.AvailTooFar) answered step = absurd (cc)
-refusal_leaves may s after i (device.Queue stop.RingEntryUnreachable) answered step = absurd (cc)
-refusal_leaves may s after i (device.Queue stop.HeadOutOfTable) answered step = absurd (cc)
-refusal_leaves may s after i (device.Queue stop.UsedUnreachable) answered step = absurd (cc)
-refusal_leaves may s after i (device.Queue stop.AvailFlagsUnreachable) answered step = absurd (cc)
-refusal_leaves may s after i (device.Queue stop.DescriptorUnreachable) answered step = absurd (cc)
+refusal_leaves may s after i _ answered step = absurd (cc)

@@ -25,8 +25,7 @@ joined : (ws : List Window) (all : Bool) (found : Option (List Place)) (ps : Lis
     after [] found ≡ (if all then Some (places ws) else None) → found ≡ Some (places ws)
 joined ws true None ps there is = absurd (cc)
 joined ws true (Some qs) ps there is = is
-joined ws false None ps there is = absurd (cc)
-joined ws false (Some qs) ps there is = absurd (cc)
+joined ws false _ ps there is = absurd (cc)
 
 -- windows that were joined hold the places of what is reached
 pub windows_hold :

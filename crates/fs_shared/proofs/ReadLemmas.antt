@@ -36,6 +36,4 @@ read_reported may s after a n (said.TheVariants.Bytes read) unread unrefused is 
 read_reported may s after a n (said.TheVariants.Refused e) unread unrefused is = unrefused e refl
 read_reported may s after a n said.TheVariants.Done unread unrefused is = affects s after a n Done is
 read_reported may s after a n (said.TheVariants.Block number) unread unrefused is = affects s after a n (NewBlockIs number) is
-read_reported may s after a n (said.TheVariants.Served k) unread unrefused is = affects s after a n _ is
-read_reported may s after a n (said.TheVariants.Copied h) unread unrefused is = affects s after a n _ is
-read_reported may s after a n (said.TheVariants.Pages ps) unread unrefused is = affects s after a n _ is
+read_reported may s after a n _ unread unrefused is = affects s after a n _ is

@@ -1,7 +1,7 @@
 -- what a share marked in a round was gathered or is left at its end
 use Rattle.std.proofs.Common.{◌≡◌, ℕ, ◌+◌, ◌/◌, ◌<◌, List, [], ◌∷◌, ◌++◌, Option, refl, ap, sym, subst, inl, inr, arith}
 use Rattle.std.specs.Prelude.{All}
-use Rattle.std.proofs.lemmas.List.Elements.{All-append, All-nil, All-weaker}
+use Rattle.std.proofs.lemmas.List.Elements.{All-append, All-weaker}
 use Rattle.vm_bitmaps.specs.Words.{page_bit}
 use Rattle.vm_atomic_bitmaps.specs.declared.counts.PageCounts.{PageCounts}
 use Rattle.vm_atomic_bitmaps.specs.declared.counts.Tally.{Tally}
@@ -22,10 +22,6 @@ use Rattle.fs_shared.proofs.Gathering.{bit_below}
 use Rattle.fs_shared.proofs.MarksPreserved.{calls_keep, calls_mark, AreMarked}
 use Rattle.fs_shared.proofs.SincePreserved.{calls_keep_since, calls_mark_since, ReportedSince}
 use Rattle.fs_shared.proofs.WholePasses.{halves_are_whole}
-
--- nothing was told, so all that was told is marked
-pub none_reported : (pages : List Tally) → HasMarked pages []
-none_reported pages = All-nil (AreMarked pages)
 
 -- one receipt more
 pub one_reported : (receipts : List Receipt) (r : Receipt) (old new : List Tally) → MarksPages r.pages.items old new

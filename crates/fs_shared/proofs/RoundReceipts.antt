@@ -1,14 +1,10 @@
 -- The receipts of a round: those of a kick more, and the greatest number of some.
 use Rattle.std.proofs.Common.{◌≡◌, ◌⊎◌, ℕ, ◌+◌, ◌<◌, ◌≤◌, ◌∙◌, List, [], ◌∷◌, ◌++◌, All, Option, Some, None, IfNone, IfSome, take, get_or}
 use Rattle.std.proofs.Common.{length, inl, inr, refl, sym, ap, subst, arith}
-use Rattle.std.proofs.lemmas.List.{append_assoc, append-nil, take_all, take_more}
+use Rattle.std.proofs.lemmas.List.{append_assoc, take_all, take_more}
 use Rattle.std.proofs.lemmas.List.Elements.{All-push, All-weaker}
 use Rattle.fs_shared.specs.declared.entry.Receipt.{Receipt}
 use Rattle.fs_shared.specs.Rounds.{ContinuesWith, IsGreatest, IsNumberOf, following}
-
--- none more, and some after some
-pub none_more : (receipts : List Receipt) → ContinuesWith receipts receipts
-none_more receipts = ([], sym (append-nil receipts))
 
 pub carries_on : (first then last : List Receipt) → ContinuesWith first then → ContinuesWith then last → ContinuesWith first last
 carries_on first then last one two =

@@ -90,9 +90,8 @@ same_of p x (y ∷ ys) all (zero, below, is) = sym is ∙ all.0
 same_of p x (y ∷ ys) all (suc k, below, is) = same_of p x ys all.1 (k, omega (arith, below), is)
 
 take_same : (p n : ℕ) (xs : List ℕ) → AllByRecursion (λ y. y ≡ p) xs → AllByRecursion (λ y. y ≡ p) (take n xs)
-take_same p zero xs all = tt
-take_same p (suc n) [] all = tt
 take_same p (suc n) (x ∷ xs) all = (all.0, take_same p n xs all.1)
+take_same p _ _ all = tt
 
 head_of : (p x n : ℕ) (xs : List ℕ) → AllByRecursion (λ y. y ≡ p) xs → 0 < length xs → 0 < n → x ≡ p → Contains (take n xs) x
 head_of p x n [] all some more is = absurd (omega (arith, some))

@@ -8,7 +8,7 @@ use Rattle.plain_machine.specs.declared.error.DeviceError.TheVariants as device
 use Rattle.plain_machine.specs.declared.refusal.Refusal.{Refusal}
 use Rattle.plain_machine.specs.declared.refusal.Refusal.TheVariants as why
 use Rattle.plain_machine.specs.Step as step
-use Rattle.plain_machine.specs.Step.{State, Step}
+use Rattle.plain_machine.specs.Step.{Step}
 use Rattle.plain_machine.specs.Run.{Command, GuestRead, Kick, Affects, Bytes, IsRefused, Performs}
 use Rattle.fs_device.specs.CommandView.{command_of}
 use Rattle.fs_shared.specs.declared.entry.Kicked as kicked

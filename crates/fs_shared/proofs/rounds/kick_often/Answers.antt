@@ -1,7 +1,7 @@
 use Rattle.std.proofs.Common.{ap, ◌∙◌, arith}
 use Rattle.vm_atomic_bitmaps.specs.Passes.{Pass, counting}
 use Rattle.fs_shared.proofs.RoundPages.{since_then}
-use Rattle.fs_shared.proofs.RoundReceipts.{carries_on, none_more}
+use Rattle.fs_shared.proofs.RoundReceipts.{carries_on}
 use Rattle.fs_shared.proofs.rounds.kick_often.Goals as goal
 
 pub returns-then-not-kick_once-clause-since : goal.returns-then-not-kick_once-clause-since
