@@ -1,9 +1,0 @@
-use Rattle.std.proofs.Common.{rules}
-use Rattle.fs_chain_c.proofs.HandleLemmas.{on_handle}
-use Rattle.fs_chain_exports.proofs.chains.pk_chain_set_ticket.Goals as goal
-
-pub returns : goal.returns
-returns c =
-    on_handle _ _ c.args.chain.now.held.value c.of_box.result.held.value
-    c.deref_mut.result.now c.number_handle-status.new.handle (search rules)
-    (search rules) c.number_handle-status.ensures
