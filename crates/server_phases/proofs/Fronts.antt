@@ -1,5 +1,5 @@
 -- What the first bytes of a request say of the whole.
-use Rattle.std.proofs.Common.{◌≡◌, ◌≤◌, ℕ, Bool, true, false, List, ◌++◌, length, take, drop, Ok, Err, Option, Some, None, cond, refl, sym}
+use Rattle.std.proofs.Common.{◌≡◌, ◌≤◌, ℕ, Bool, true, false, List, ◌++◌, length, take, drop, Ok, Err, Option, Some, cond, refl, sym}
 use Rattle.std.proofs.Common.{ap, ◌∙◌, arith}
 use Rattle.std.specs.Prelude.{nat_lt}
 use Rattle.std.proofs.lemmas.Bool.Decides.{nat_tests}
@@ -34,9 +34,8 @@ read_by : {R : Type 0} → (t u : Bool) (n : ℕ) (make : List ℕ → R) (front
     (leaving (and_then {A = List ℕ × List ℕ} {B = R × List ℕ} (cond t (Err (Faults DecodeMessage)) (Ok (take n front, drop n front)))
     (λ x. Ok (make x.0, x.1))) (drop n all))
 read_by true true n make front all e f = refl
-read_by true false n make front all e f = absurd (cc)
-read_by false true n make front all e f = absurd (cc)
 read_by false false n make front all e f = rw f refl
+read_by _ _ n make front all e f = absurd (cc)
 
 -- a record that begins two lists of bytes is read from both
 read_by_front : {R : Type 0} → (s : RecordShape R) (front all : List ℕ) → take (size s.parts) front ≡ take (size s.parts) all
@@ -80,8 +79,7 @@ record_begins front request e h =
 
 pub write_is : (o : Option Opcode) → is_write o ≡ true → o ≡ Some op.Write
 write_is (Some op.Write) e = refl
-write_is (Some _) e = absurd (cc)
-write_is None e = absurd (cc)
+write_is _ e = absurd (cc)
 
 -- the bytes behind a record that was read
 abbrev pub left_over : {R : Type 0} → List ℕ → reading.Parsed R → List ℕ

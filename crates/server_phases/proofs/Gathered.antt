@@ -16,7 +16,7 @@ use Rattle.server_replies.specs.Entries.{Fit, FitsIn, IsFull, IsWrong, EIO, EOVE
 use Rattle.server_replies.specs.Entries.{node_bytes, fit_of, is_dot, no_node}
 use Rattle.server_replies.specs.WholeReplies.{reply_bytes, error_bytes, listing_bytes, data_header}
 use Rattle.server_replies.proofs.ReplyLemmas.{length_reply, length_error}
-use Rattle.virtiofsd_fuse.specs.Grammar.{FileCommand, One, Starts, Lists}
+use Rattle.virtiofsd_fuse.specs.Grammar.{FileCommand, Lists}
 use Rattle.virtiofsd_fuse.specs.Listings as asked
 use Rattle.virtiofsd_fuse.specs.Listings.{ListingResult, Next, after_call, forget_lookup, with_entry, list_entry, list_entries}
 use Rattle.virtiofsd_fuse.specs.Listings.{readdir_call}
@@ -182,8 +182,6 @@ pub ends : (s : Setting) (l : Listing) (command : FileCommand) (list : List ℕ)
     → Holds l list es
     → commanded s command (Entries (entries_of es) ∷ all_found l.with_nodes es)
     ≡ by_reply (first_call command ∷ look_ups command es) s.options (data_header l.unique (Ok l.len) ++ take l.len list)
-ends s l (One unique call) list es is holds = absurd is
-ends s l (Starts unique capable readahead) list es is holds = absurd is
 ends s l (Lists unique a) list es is holds =
     let long : l.len ≡ length (all_bytes a.with_nodes es) = holds.long ∙ ap (λ b. length (all_bytes b es)) is.1 in
     let stands : take l.len list ≡ all_bytes a.with_nodes es = holds.stands ∙ ap (λ b. all_bytes b es) is.1 in
@@ -199,6 +197,7 @@ ends s l (Lists unique a) list es is holds =
     ∙ gives_list s.room s.options unique l.len (readdir_call a ∷ look_ups (Lists unique a) es) list (all_bytes a.with_nodes es) long stands
     (omega (arith, room, fits, place))
     ∙ ap (λ u. by_reply (readdir_call a ∷ look_ups (Lists unique a) es) s.options (data_header u (Ok l.len) ++ take l.len list)) (sym is.0)
+ends s l _ list es is holds = absurd is
 
 -- how an entry doesn't go in that ends the list, by an error if there is one
 abbrev out : Option ℕ → Fit
@@ -268,8 +267,6 @@ out_behind s l unique a list es e behind answers error is holds fit =
     all ∙ ap (λ x. yielded (look_ups (Lists unique a) es ++ calls) x error) (append-nil (all_bytes b es))
 
 full_ends : (l : Listing) (list : List ℕ) (e : Brought) → fit_in l (length e.0.name) ≡ IsFull → EndsList l list e
-full_ends l list e full s (One unique call) es behind answers is holds = absurd is
-full_ends l list e full s (Starts unique capable readahead) es behind answers is holds = absurd is
 full_ends l list e full s (Lists unique a) es behind answers is holds =
     let command = Lists unique a in
     let calls = look_ups command es ++ (look_up command e.0 ++ forget_listed command e) in
@@ -285,6 +282,7 @@ full_ends l list e full s (Lists unique a) es behind answers is holds =
     (omega (arith, room, fits, place))
     ∙ ap (λ u. by_reply (readdir_call a ∷ calls) s.options (data_header u (Ok l.len) ++ take l.len list)) (sym is.0)
     ∙ sym (ap (λ (x : ServedMessage). record x { calls = x.calls ++ (look_up command e.0 ++ forget_listed command e) }) ended)
+full_ends l list e full s _ es behind answers is holds = absurd is
 
 failed_fits : (t b : Bool) (unique errno room : ℕ) (bytes : List ℕ) → (b && nat_lt 0 (length bytes)) ≡ t → 16 + length bytes ≤ room
     → length (listing_bytes unique b bytes (Some errno)) ≤ room
@@ -311,13 +309,12 @@ failed_reported s l unique errno a calls list es is holds =
 
 wrong_fails :
     (l : Listing) (list : List ℕ) (e : Brought) (errno : ℕ) → fit_in l (length e.0.name) ≡ IsWrong errno → FailsList l list e errno
-wrong_fails l list e errno wrong s (One unique call) es behind answers is holds = absurd is
-wrong_fails l list e errno wrong s (Starts unique capable readahead) es behind answers is holds = absurd is
 wrong_fails l list e errno wrong s (Lists unique a) es behind answers is holds =
     let command = Lists unique a in
     ap (λ b. commanded s command (Entries (entries_of es ++ e.0 ∷ behind) ∷ (all_found b es ++ (found_of b e ++ answers)))) is.1
     ∙ ap (list_ended s unique a) (out_behind s l unique a list es e behind answers (Some errno) is holds wrong)
     ∙ failed_reported s l unique errno a (look_ups command es ++ (look_up command e.0 ++ forget_listed command e)) list es is holds
+wrong_fails l list e errno wrong s _ es behind answers is holds = absurd is
 
 abbrev outcome : Type 0
 outcome = Result (Unit {0}) NotAdded
@@ -371,11 +368,10 @@ placed_wrong r l list list_len e outcome =
 -- an error alone
 pub fails_alone : (s : Setting) (l : Listing) (command : FileCommand) (list : List ℕ) (errno : ℕ) → IsListingFor l s.room command
     → commanded s command (Failed errno ∷ []) ≡ by_reply (first_call command ∷ []) s.options (error_bytes l.unique errno ++ take 0 list)
-fails_alone s l (One unique call) list errno is = absurd is
-fails_alone s l (Starts unique capable readahead) list errno is = absurd is
 fails_alone s l (Lists unique a) list errno is =
     gives_error s.room s.options unique errno (readdir_call a ∷ []) list is.4
     ∙ ap (λ u. by_reply (readdir_call a ∷ []) s.options (error_bytes u errno ++ take 0 list)) (sym is.0)
+fails_alone s l _ list errno is = absurd is
 
 not_found : (unique errno : ℕ) (l : asked.ListRequest) (d : Listed) (left room : ℕ) → l.with_nodes ≡ true → is_dot d.name ≡ false
     → list_entries l (d ∷ []) left room (Failed errno ∷ []) ≡ yielded (look_up (Lists unique l) d) [] (Some errno)
@@ -389,8 +385,6 @@ pub look_up_failed : (s : Setting) (l : Listing) (command : FileCommand) (list :
     → commanded s command (Entries (entries_of es ++ d ∷ []) ∷ (all_found true es ++ Failed errno ∷ []))
     ≡ by_reply (first_call command ∷ (look_ups command es ++ look_up command d)) s.options
     (listing_bytes l.unique l.with_nodes (all_bytes l.with_nodes es) (Some errno))
-look_up_failed s l (One unique call) list es d errno is holds n t = absurd is
-look_up_failed s l (Starts unique capable readahead) list es d errno is holds n t = absurd is
 look_up_failed s l (Lists unique a) list es d errno is holds n t =
     let b = a.with_nodes in
     let nodes : b ≡ true = sym is.1 ∙ n in
@@ -408,6 +402,7 @@ look_up_failed s l (Lists unique a) list es d errno is holds n t =
     ap (λ b. commanded s (Lists unique a) (Entries (entries_of es ++ d ∷ []) ∷ (all_found b es ++ Failed errno ∷ []))) (sym nodes)
     ∙ ap (list_ended s unique a) (all ∙ ap (λ x. yielded calls x (Some errno)) (append-nil (all_bytes b es)))
     ∙ failed_reported s l unique errno a calls list es is holds
+look_up_failed s l _ list es d errno is holds n t = absurd is
 
 -- the reply of an error behind entries whose nodes are held: these
 pub held_reply : (l : Listing) (list : List ℕ) (es : List Brought) (errno : ℕ) → Holds l list es → (l.with_nodes && nat_lt 0 l.len) ≡ true

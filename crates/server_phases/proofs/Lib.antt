@@ -1,4 +1,4 @@
 pub mod Fronts
 pub mod Gathered
 pub mod Suiting
-pub mod Telling
+pub mod Reporting

@@ -1,4 +1,4 @@
--- What is told of a request: a reply without a call, or one call.
+-- What a request is decoded to: a reply without a call, or one call.
 use Rattle.std.proofs.Common.{◌≡◌, ◌*◌, ◌<◌, ◌≤◌, ◌^◌, ℕ, zero, suc, drop, Bool, true, false, List, [], length, Ok, Err, cond, refl, sym}
 use Rattle.std.proofs.Common.{ap, subst, ◌∙◌, arith}
 use Rattle.std.specs.Prelude.{◌/◌, nat_le, nat_lt}
@@ -66,7 +66,7 @@ plain_by (value.Write x n h b s o w d k f) bytes c e p = absurd (plain_not _ c e
 plain_by (value.BatchForget x counts) bytes c e p = absurd (plain_not _ c e refl p)
 plain_by call bytes c e p = (e, tt)
 
--- one call is told with what it waits for
+-- one call, with the answer that it waits for
 pub call_is_reported : (s : Setting) (h : InHeader) (bytes : List ℕ) (c : FileCall) (call : made.FileCall) (room : ℕ) → s.room ≡ room
     → CallShows h c → call_of [] call ≡ c
     → IsDecoded s (Asks (One h.unique c)) bytes
@@ -83,7 +83,7 @@ fault_reported s m e h = rw h refl
 pub silence_reported : (s : Setting) (m : Meaning) → m ≡ IsSilent → IsDecoded s m [] asked.Silence
 silence_reported s m h = rw h refl
 
--- a reply that tells the versions
+-- a reply with the version
 pub versions_reported : (page_size options room unique : ℕ) (bytes : List ℕ)
     → IsDecoded (setting page_size options room) (Replies (reply_bytes unique versions_bytes)) bytes
     (reported_reply room (reply_bytes unique versions_bytes))

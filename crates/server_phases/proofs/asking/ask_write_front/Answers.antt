@@ -5,7 +5,7 @@ use Rattle.server_requests.specs.Reading.{record_parser}
 use Rattle.virtiofsd_fuse.proofs.Rows.{meaning_head}
 use Rattle.server_phases.specs.Asking.{BeginsRecord}
 use Rattle.server_phases.proofs.Fronts.{behind, front_begins, record_begins, record_by_front}
-use Rattle.server_phases.proofs.Telling.{has_asker}
+use Rattle.server_phases.proofs.Reporting.{has_asker}
 use Rattle.server_phases.proofs.asking.ask_write_front.Goals as goal
 
 pub returns-in-Ok-clause-reported : goal.returns-in-Ok-clause-reported

@@ -1,4 +1,4 @@
-use Rattle.server_phases.proofs.Telling.{call_is_reported}
+use Rattle.server_phases.proofs.Reporting.{call_is_reported}
 use Rattle.server_phases.proofs.asking.called.Goals as goal
 
 pub returns-clause-reported : goal.returns-clause-reported

@@ -1,4 +1,4 @@
-use Rattle.server_phases.proofs.Telling.{error_reported}
+use Rattle.server_phases.proofs.Reporting.{error_reported}
 use Rattle.server_phases.proofs.asking.refused.Goals as goal
 
 pub returns-clause-reported : goal.returns-clause-reported

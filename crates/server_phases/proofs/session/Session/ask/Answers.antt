@@ -1,7 +1,7 @@
 use Rattle.std.proofs.Common.{refl, sym}
 use Rattle.virtiofsd_fuse.proofs.Rows.{meaning_head, meaning_fault}
 use Rattle.server_phases.proofs.Fronts.{data_behind}
-use Rattle.server_phases.proofs.Telling.{has_asker}
+use Rattle.server_phases.proofs.Reporting.{has_asker}
 use Rattle.server_phases.proofs.session.Session.ask.Goals as goal
 
 pub returns-in-Ok-clause-reported : goal.returns-in-Ok-clause-reported

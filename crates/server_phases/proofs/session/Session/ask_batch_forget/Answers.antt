@@ -1,6 +1,6 @@
 use Rattle.std.proofs.Common.{drop}
 use Rattle.virtiofsd_fuse.specs.Serving.{setting}
-use Rattle.server_phases.proofs.Telling.{fault_reported}
+use Rattle.server_phases.proofs.Reporting.{fault_reported}
 use Rattle.server_phases.proofs.session.Session.ask_batch_forget.Goals as goal
 
 pub ask_pairs-requires : goal.ask_pairs-requires

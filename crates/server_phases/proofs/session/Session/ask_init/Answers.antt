@@ -1,6 +1,6 @@
 use Rattle.std.proofs.Common.{refl}
 use Rattle.virtiofsd_fuse.specs.Serving.{setting}
-use Rattle.server_phases.proofs.Telling.{fault_reported, versions_reported}
+use Rattle.server_phases.proofs.Reporting.{fault_reported, versions_reported}
 use Rattle.server_phases.proofs.session.Session.ask_init.Goals as goal
 
 pub init_asked-requires : goal.init_asked-requires

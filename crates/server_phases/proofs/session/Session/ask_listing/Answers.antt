@@ -1,5 +1,5 @@
 use Rattle.virtiofsd_fuse.specs.Serving.{setting}
-use Rattle.server_phases.proofs.Telling.{fault_reported}
+use Rattle.server_phases.proofs.Reporting.{fault_reported}
 use Rattle.server_phases.proofs.session.Session.ask_listing.Goals as goal
 
 pub entries_asked-requires-clause-size : goal.entries_asked-requires-clause-size

@@ -1,6 +1,6 @@
 use Rattle.virtiofsd_fuse.specs.Serving.{setting}
 use Rattle.virtiofsd_fuse.specs.Grammar.{given}
-use Rattle.server_phases.proofs.Telling.{fault_reported, forgets_read, forgets_cut, whole_pairs}
+use Rattle.server_phases.proofs.Reporting.{fault_reported, forgets_read, forgets_cut, whole_pairs}
 use Rattle.server_phases.proofs.session.Session.ask_pairs.Goals as goal
 
 pub returns-in-Ok-clause-reported : goal.returns-in-Ok-clause-reported

@@ -1,5 +1,5 @@
 use Rattle.virtiofsd_fuse.specs.Serving.{setting}
-use Rattle.server_phases.proofs.Telling.{fault_reported}
+use Rattle.server_phases.proofs.Reporting.{fault_reported}
 use Rattle.server_phases.proofs.session.Session.ask_read.Goals as goal
 
 pub read_asked-requires : goal.read_asked-requires

@@ -1,6 +1,6 @@
 use Rattle.std.proofs.Common.{refl}
 use Rattle.virtiofsd_fuse.specs.Serving.{setting}
-use Rattle.server_phases.proofs.Telling.{fault_reported, silence_reported}
+use Rattle.server_phases.proofs.Reporting.{fault_reported, silence_reported}
 use Rattle.server_phases.proofs.session.Session.ask_single.Goals as goal
 
 pub returns-in-Call-clause-reported : goal.returns-in-Call-clause-reported
