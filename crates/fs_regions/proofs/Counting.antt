@@ -8,7 +8,7 @@ use Rattle.fs_queue.specs.declared.chain_walk.Progress.TheVariants as shows
 use Rattle.fs_queue.specs.declared.layout.QueueLayout.{QueueLayout}
 use Rattle.fs_queue.specs.declared.walk.Walk as ring
 use Rattle.fs_queue.specs.declared.walk.Walk.TheVariants as waits
-use Rattle.fs_queue.specs.Chain.{Descriptor, Visit, WalkStep, Ordinary, Indirect, Faulty, Stops, Found, IsChain, after_walk_step}
+use Rattle.fs_queue.specs.Chain.{Descriptor, Visit, WalkStep, Ordinary, Indirect, Stops, Found, IsChain, after_walk_step}
 use Rattle.fs_queue.specs.Chain.{first_visit, has_next, next_visit, walk_step}
 use Rattle.fs_queue.specs.Loads.{Ahead, Reads, Ends, ahead_after, ahead_of_next, holding, reads_entry}
 use Rattle.fs_queue.specs.RingingView.{BeginsChain}
@@ -23,18 +23,14 @@ use Rattle.fs_regions.proofs.Finding.{with_joining}
 -- how many descriptors join at a step
 abbrev joined : WalkStep → ℕ
 joined (Ordinary d) = 1
-joined (Indirect t) = 0
-joined (Faulty f) = 0
-joined Stops = 0
+joined _ = 0
 
 plus_none : (n : ℕ) → n ≡ n + 0
 plus_none n = omega arith
 
 longer : (w : WalkStep) (ds : List Descriptor) → length (with_joining ds (joining w)) ≡ length ds + joined w
 longer (Ordinary d) ds = length-append ds (d ∷ [])
-longer (Indirect t) ds = plus_none (length ds)
-longer (Faulty f) ds = plus_none (length ds)
-longer Stops ds = plus_none (length ds)
+longer _ ds = plus_none (length ds)
 
 abbrev earlier_of : Option Visit → ℕ
 earlier_of None = 0
@@ -50,8 +46,7 @@ next_earlier v u (Ordinary d) is = by_next (has_next d) is
     by_next true some = sym (ap earlier_of some)
     by_next false none = absurd (cc)
 next_earlier v u (Indirect t) is = sym (ap earlier_of is) ∙ plus_none v.earlier
-next_earlier v u (Faulty f) is = absurd (cc)
-next_earlier v u Stops is = absurd (cc)
+next_earlier v u _ is = absurd (cc)
 
 abbrev visit_or : Visit → Ahead → Visit
 visit_or u (Reads v) = v

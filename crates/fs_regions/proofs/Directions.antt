@@ -3,7 +3,7 @@ use Rattle.std.proofs.Common.{◌≡◌, ℕ, zero, suc, Bool, true, false, ◌+
 use Rattle.std.proofs.Common.{Option, Some, None, refl, ap, sym, subst, ◌∙◌, append_assoc, arith, get_or}
 use Rattle.std.specs.Prelude.{is_some, nat_lt, min, IfSome}
 use Rattle.std.specs.List.{list_all}
-use Rattle.std.proofs.lemmas.Bool.{and_parts, ltb-true}
+use Rattle.std.proofs.lemmas.Bool.{and_parts}
 use Rattle.std.proofs.lemmas.List.Sums.{sum_by-cons, sum_by_push}
 use mathlib.Core.Bool.{beq}
 use Rattle.vm_memory_core.specs.Host.{Place}
@@ -30,10 +30,6 @@ by_bit false false d ds is = rw is refl
 direction : (b x : Bool) (d : Descriptor) (ds : List Descriptor) → beq (is_writable d) b ≡ x →
     of_direction b (d ∷ ds) ≡ preserved x d (of_direction b ds)
 direction b x d ds is = by_bit b (is_writable d) d ds refl ∙ ap (λ (y : Bool). preserved y d (of_direction b ds)) is
-
-none_of : (b : Bool) → of_direction b [] ≡ []
-none_of true = refl
-none_of false = refl
 
 -- so many bytes of the descriptors that are left are still to be skipped: they begin with the bytes from one on, and have places if all
 -- have; the others come before
@@ -107,9 +103,8 @@ stands l b ds from skip d rest this less s =
 
 take_front : (xs ys : List ℕ) (n : ℕ) → length xs ≡ n → take n (xs ++ ys) ≡ xs
 take_front [] ys zero long = refl
-take_front [] ys (suc n) long = absurd (omega (arith, long))
-take_front (x ∷ xs) ys zero long = absurd (omega (arith, long))
 take_front (x ∷ xs) ys (suc n) long = ap (λ (l : List ℕ). x ∷ l) (take_front xs ys n (omega (arith, long)))
+take_front _ ys _ long = absurd (omega (arith, long))
 
 part : (a k n r : ℕ) (more : List ℕ) → take n (drop k (addresses a (k + (n + r)) ++ more)) ≡ addresses (a + k) n
 part a k n r more =
@@ -177,16 +172,6 @@ reached : (l : Mapped) (b : Bool) (ds : List Descriptor) (from skip : ℕ) (d : 
     all_reach (places_in l) (access_of b) (of_direction b ds) ≡ true → reach (places_in l) (access_of b) d.addr d.len ≡ true
 reached l b ds from skip d rest this s all = (all_tail (λ e. reach (places_in l) (access_of b) e.addr e.len) d (of_direction b rest)
     ((rw (direction b true d rest this) at s.there) all)).0
-
-pub no_overflow : (l : Mapped) (b : Bool) (ds : List Descriptor) (from skip : ℕ) (d : Descriptor) (rest : List Descriptor) →
-    beq (is_writable d) b ≡ true →
-    skip < d.len → Skips l b ds from skip (d ∷ rest) →
-    all_reach (places_in l) (access_of b) (of_direction b ds) ≡ true → d.addr + skip < 2 ^ 64
-no_overflow l b ds from skip d rest this less s all =
-    let parts = and_parts (nat_lt (d.addr + d.len) (2 ^ 64)) (list_all (λ x. is_some (location (places_in l) (access_of b) x))
-    (addresses d.addr d.len)) (reached l b ds from skip d rest this s all) in
-    let fits : d.addr + d.len < 2 ^ 64 = ltb-true (d.addr + d.len) (2 ^ 64) parts.0 in
-    omega (arith, fits, less)
 
 not_both : (o : Option Place) → is_some o ≡ true → o ≡ None → ⊥
 not_both None some none = cc

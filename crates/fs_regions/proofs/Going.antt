@@ -78,10 +78,7 @@ stops_other : (g : Mapped) (ahead : List AheadBytes) (ds : SmallVec Descriptor) 
     → ((walk : QueueWalk) → s ≡ step.Load walk → ⊥) → StopsBefore g ahead ds s
 stops_other g [] ds s other = tt
 stops_other g (l ∷ more) ds (step.Load walk) other = absurd (other walk refl)
-stops_other g (l ∷ more) ds step.Idle other = tt
-stops_other g (l ∷ more) ds (step.Refused error) other = tt
-stops_other g (l ∷ more) ds (step.Chain head fault) other = tt
-stops_other g (l ∷ more) ds (step.Missing range access) other = tt
+stops_other g (l ∷ more) ds _ other = tt
 
 -- it stays where it is
 pub proceeds_no_further : (g : Mapped) (limit : ℕ) (q : Queue) (ahead : List AheadBytes) (ds : SmallVec Descriptor) (s : comes.CourseStep)

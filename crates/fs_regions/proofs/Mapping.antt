@@ -19,9 +19,8 @@ use Rattle.fs_regions.specs.Places.{places_in, untranslated}
 
 next_may :
     (access : Permissions) (o next : Option Mapping) → may_pass access o ≡ true → go_together o next ≡ true → may_pass access next ≡ true
-next_may access None next pass e = absurd (cc)
-next_may access (Some to) None pass e = absurd (cc)
 next_may access (Some to) (Some next) pass e = subst (λ (p : Permissions). allows p access ≡ true) (together_parts to next e).1 pass
+next_may access _ _ pass e = absurd (cc)
 
 -- an access that may go through an address may go through those that are mapped as one with it
 pub run_may :

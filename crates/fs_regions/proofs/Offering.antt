@@ -24,8 +24,7 @@ on_next m limit q index entry ls request next runs waits = rw (runs, waits) refl
 return_has : (b c : Bool) → (if not b then Some UsedUnreachable else if not c then Some AvailFlagsUnreachable else None) ≡ None →
     (b ≡ true) × (c ≡ true)
 return_has true true e = (refl, refl)
-return_has true false e = absurd (cc)
-return_has false c e = absurd (cc)
+return_has _ _ e = absurd (cc)
 
 -- by what a walk from a head finds
 pub on_found : (m : Memory) (limit : ℕ) (q : Queue) (loaded : Loaded) (head : ℕ) (found : Found) (request : List ℕ) (o : Offer) →

@@ -1,5 +1,5 @@
 -- which addresses have places in some regions
-use Rattle.std.proofs.Common.{◌≡◌, ℕ, Bool, ◌+◌, ◌^◌, ◌%◌, ◌<◌, ◌-◌, ◌≤◌, min, List, ◌∷◌, Option, Some, None, true, refl, ap, sym, ◌∙◌}
+use Rattle.std.proofs.Common.{◌≡◌, ℕ, Bool, ◌+◌, ◌^◌, ◌%◌, ◌<◌, ◌-◌, ◌≤◌, min, List, ◌∷◌, Some, None, true, refl, ap, ◌∙◌}
 use Rattle.std.proofs.Common.{arith, nat_le}
 use Rattle.std.specs.Prelude.{is_some}
 use Rattle.std.specs.List.{list_all}

@@ -20,7 +20,7 @@ use Rattle.fs_queue.specs.NextAvail.{NextAvail, Idle, Head, Refused}
 use Rattle.fs_queue.specs.Chain.{Descriptor, Found, Visit, WalkStep, after_walk_step, entry_address, first_visit}
 use Rattle.fs_queue.specs.Loads.{Load, Reads, Ends, asks_entry, is_whole, found_exactly, chain_exactly, ahead_at, ahead_after}
 use Rattle.fs_queue.specs.OfferLoads.{available_by}
-use Rattle.fs_queue.specs.RingingView.{Stage, AsksIndex, AsksEntry, HasResult, by_index, by_entry, stage_of, stage_at, BeginsAt}
+use Rattle.fs_queue.specs.RingingView.{Stage, AsksEntry, HasResult, by_index, by_entry, stage_of, stage_at, BeginsAt}
 use Rattle.fs_queue.specs.RingingView.{BeginsChain}
 use Rattle.fs_queue.specs.RingingView.{IfRingEntry}
 use Rattle.fs_queue.specs.WalkingView.{at_position, found_of}
@@ -95,9 +95,8 @@ index_came q None whole asks = absurd (not_asked (sym (ap asks_entry (index_lost
 index_came q (Some bs) whole asks = (bs, refl, eqb-true (length bs) 2 whole)
 
 next_of : Stage → NextAvail
-next_of AsksIndex = Idle
-next_of AsksEntry = Idle
 next_of (HasResult next) = next
+next_of _ = Idle
 
 pub untold : (a b : NextAvail) → HasResult a ≡ HasResult b → a ≡ b
 unfolding next_of

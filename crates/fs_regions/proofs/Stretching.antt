@@ -6,7 +6,6 @@ use Rattle.std.specs.List.{list_all}
 use Rattle.std.proofs.lemmas.Bool.{and_parts, eq-eqb}
 use Rattle.std.proofs.lemmas.List.{length-drop, length-take-le}
 use Rattle.std.proofs.lemmas.List.Elements.{All-cons, All-nil, All-push}
-use Rattle.smallvec.specs.SmallVec.{SmallVec, HasRoomFor}
 use Rattle.vm_iotlb.specs.declared.permissions.Permissions.TheVariants.{Read}
 use Rattle.vm_memory_core.specs.Window.{Window, places_of}
 use Rattle.vm_memory.specs.Memory.{Memory, addresses, located, location, reach}
@@ -83,12 +82,6 @@ pub entry_len : (bs : List ℕ) (offset : ℕ) → offset + 16 ≤ length bs →
 entry_len bs offset inside =
     let left = length-drop offset bs in
     length-take-le 16 (drop offset bs) (omega (arith, inside, left))
-
-pub room_left : (old new : SmallVec Descriptor) (d : Descriptor) (more : ℕ) → new.items ≡ old.items ++ d ∷ [] →
-    new.capacity ≡ old.capacity → HasRoomFor old (1 + more) → HasRoomFor new more
-room_left old new d more items capacity had =
-    let len = ap length items ∙ length-append old.items (d ∷ []) in
-    omega (arith, had, capacity, len)
 
 -- what joins the chain by an entry that stands in a stretch
 pub entry_read : (walk : ChainWalk) (bs : List ℕ) (offset : ℕ) (entry : List ℕ) (joins : Option Descriptor) (after : code.Progress)

@@ -1,4 +1,4 @@
-use Rattle.std.proofs.Common.{◌-◌, ◌+◌, ◌≤◌, arith}
+use Rattle.std.proofs.Common.{◌-◌, arith}
 use Rattle.std.proofs.lemmas.Bool.{leb-true}
 use Rattle.vm_memory.proofs.Places.{start_below, end_above}
 use Rattle.fs_regions.proofs.Reaching.{reaches_in_one}

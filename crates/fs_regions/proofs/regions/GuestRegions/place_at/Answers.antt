@@ -1,5 +1,4 @@
-use Rattle.std.proofs.Common.{◌-◌, ◌<◌, arith}
-use Rattle.std.proofs.lemmas.Bool.{leb-true}
+use Rattle.std.proofs.Common.{◌-◌, arith}
 use Rattle.vm_memory.proofs.Places.{start_below, end_above}
 use Rattle.fs_regions.proofs.Reaching.{lies_in_one}
 use Rattle.fs_regions.proofs.regions.GuestRegions.place_at.Goals as goal
