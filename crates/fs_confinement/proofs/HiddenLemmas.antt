@@ -15,7 +15,7 @@ use Rattle.vm_memory.specs.Memory.{Memory, addresses, for_io, location, physical
 use Rattle.vm_memory.specs.Memory.{table_of}
 use Rattle.fs_queue.specs.declared.fault.QueueError.TheVariants as stop
 use Rattle.fs_queue.specs.Queue.{Queue, fresh}
-use Rattle.fs_queue.specs.Taking.{Offer, IsRequest, CannotFetch, Refuses, Offers, offer}
+use Rattle.fs_queue.specs.Taking.{Offer, IsRequest, CannotFetch, Refuses, Offers}
 use Rattle.fs_queue.specs.Taking as taking
 use Rattle.virtiofsd_fuse.specs.Serving.{May}
 use Rattle.plain_machine.specs.declared.error.DeviceError.{DeviceError}
@@ -24,7 +24,7 @@ use Rattle.plain_machine.specs.declared.refusal.Refusal.TheVariants as why
 use Rattle.plain_machine.specs.Step.{State, Exchange, Calls, Idle, Refused, Exchanged, Exchanges, StepOf, StepEnd}
 use Rattle.plain_machine.specs.Run as run
 use Rattle.plain_machine.specs.Run.{Turns, Command, Answer, Effect, KickEnds, KickRun, Kicks, KickAnswer, HasEffect, Does, Performs, Run}
-use Rattle.plain_machine.specs.Run.{RunReported, Affects, IsDecided, effect}
+use Rattle.plain_machine.specs.Run.{RunReported, Affects, effect}
 use Rattle.plain_machine.specs.Run.{insert, insert_block, is_known, some_overlap, reset}
 use Rattle.fs_confinement.specs.ReadSet.{place_if, places_for, is_at, is_among, Touched, nothing, and_then, step_touches}
 use Rattle.fs_confinement.specs.ReadSet.{end_touches, kick_touches, kicks_touch, guest_reads, guest_writes, plain_touches, command_touches}

@@ -427,8 +427,6 @@ module _ {F : Type 0} (may : May F) where
     bytes = subst (λ (k : State F). KeepDifference s.memory.host t.memory.host k.memory.host t.memory.host []) (sym ran)
         (nothing_differs s.memory.host t.memory.host);
   }
-  run_follows s t after [] (reported ∷ all_reported) ran few same agree = absurd ran
-  run_follows s t after (e ∷ es) [] ran few same agree = absurd ran
   run_follows s t after (e ∷ es) (reported ∷ all_reported) (mid, performs, rest) few same agree =
       let own = command_touches may s e.0 reported e.1 mid performs in
       let later = run_touches may mid es all_reported after rest in
@@ -445,3 +443,4 @@ module _ {F : Type 0} (may : May F) where
         rest = others.rest;
         bytes = keep_both own.written later.written first.bytes others.bytes;
       }
+  run_follows s t after _ _ ran few same agree = absurd ran

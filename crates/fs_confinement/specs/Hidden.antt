@@ -6,7 +6,7 @@ use Rattle.vm_memory.specs.Layout.{Region}
 use Rattle.virtiofsd_fuse.specs.Serving.{May}
 use Rattle.plain_machine.specs.Step.{State}
 use Rattle.plain_machine.specs.Run as run
-use Rattle.plain_machine.specs.Run.{Command, Answer, Turns, Run, RunReported}
+use Rattle.plain_machine.specs.Run.{Command, Answer, Turns, RunReported}
 use Rattle.fs_confinement.specs.ReadSet.{is_among, byte_of, read_set, written_set}
 use Rattle.fs_confinement.specs.Confinement.{copies, SameButBytes, AllowsToo}
 

@@ -22,7 +22,7 @@ use Rattle.virtiofsd_fuse.specs.Serving.{May}
 use Rattle.plain_machine.specs.declared.error.DeviceError.{DeviceError}
 use Rattle.plain_machine.specs.MarkedPages.{returned_addresses}
 use Rattle.plain_machine.specs.Step as step
-use Rattle.plain_machine.specs.Step.{State, Exchange, StepEnd, Refused, Exchanged}
+use Rattle.plain_machine.specs.Step.{State, StepEnd, Refused, Exchanged}
 use Rattle.plain_machine.specs.Run as run
 use Rattle.plain_machine.specs.Run.{Command, Answer, Turns, KickRun, Kicks, KickAnswer, Performs, RunReported}
 
