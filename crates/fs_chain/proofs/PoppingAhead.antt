@@ -177,15 +177,9 @@ stops_at w' course pop_id [] ds items s is stays stops = tt
 stops_at w' course pop_id (l ∷ more) ds items (step.Load walk) is stays stops =
     subst (λ (x : state.ChainState). IfWalking x (λ walk. LeavesLoad w'.regions walk l w'.descriptors)) (sym is)
     (subst (λ (x : SmallVec Descriptor). LeavesLoad w'.regions walk l x) (sym stays) stops)
-stops_at w' course pop_id (l ∷ more) ds items step.Idle is stays stops =
-    subst (λ (x : state.ChainState). IfWalking x (λ walk. LeavesLoad w'.regions walk l w'.descriptors)) (sym is) tt
-stops_at w' course pop_id (l ∷ more) ds items (step.Refused e) is stays stops =
-    subst (λ (x : state.ChainState). IfWalking x (λ walk. LeavesLoad w'.regions walk l w'.descriptors)) (sym is) tt
 stops_at w' course pop_id (l ∷ more) ds items (step.Chain head None) is stays stops =
     subst (λ (x : state.ChainState). IfWalking x (λ walk. LeavesLoad w'.regions walk l w'.descriptors)) (sym is) tt
-stops_at w' course pop_id (l ∷ more) ds items (step.Chain head (Some fault)) is stays stops =
-    subst (λ (x : state.ChainState). IfWalking x (λ walk. LeavesLoad w'.regions walk l w'.descriptors)) (sym is) tt
-stops_at w' course pop_id (l ∷ more) ds items (step.Missing range access) is stays stops =
+stops_at w' course pop_id (l ∷ more) ds items _ is stays stops =
     subst (λ (x : state.ChainState). IfWalking x (λ walk. LeavesLoad w'.regions walk l w'.descriptors)) (sym is) tt
 
 -- a pop by loads ahead, from its course
