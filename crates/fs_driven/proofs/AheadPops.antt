@@ -16,7 +16,6 @@ use Rattle.fs_regions.specs.declared.ahead.LoadAhead.{LoadAhead}
 use Rattle.fs_chain.specs.declared.loads.LoadOutcome as outcome
 use Rattle.fs_chain.specs.declared.loads.LoadOutcome.TheVariants as outcomes
 use Rattle.fs_chain.specs.declared.popping.PopOutcome as walked
-use Rattle.fs_driven.specs.Desks.{desk}
 use Rattle.fs_driven.specs.Reported.{DrivesOne, Reports, turn}
 use Rattle.fs_chain.specs.Orders.{is_out}
 use Rattle.fs_chain.specs.declared.chain_handle.ChainHandle.{ChainHandle}
@@ -26,6 +25,7 @@ use Rattle.fs_chain.specs.declared.queue.QueueState.{QueueState}
 use Rattle.fs_chain.specs.declared.state.ChainState as state
 use Rattle.fs_chain.specs.declared.state.ChainState.TheVariants as at
 use Rattle.fs_driven.proofs.Calls.{no_error, refuses, same_all, same_held}
+use Rattle.fs_driven.proofs.Spots.{DrivesAt, desk_before, drives_one}
 use Rattle.fs_driven.proofs.Pops.{Popping, begun_keeps, gone_keeps, no_part, part_keeps, popped}
 
 proceeds_at : (old new : ChainHandle) (q q' : QueueState) (bytes : List ℕ) (reported : outcome.LoadOutcome)
@@ -61,15 +61,14 @@ ahead_keeps (l ∷ taken) old new q q' reported (w, k, earlier, walks, wants, is
 ahead_drives : (page_size : ℕ) (old new : ChainHandle) (q q' : QueueState) (ahead : Bor (List LoadAhead))
     (bytes : Bor (List ℕ)) (reported : walked.PopOutcome) → old.state ≡ at.Free → Popping old new q q'
     → (pop : PopsAhead (loads_ahead ahead.now bytes.now) old new q q' (outcomes.On reported))
-    → DrivesOne page_size old new q q' (does.PopAhead ahead bytes) (gives.PoppedAhead (Ok reported))
-unfolding DrivesOne
+    → DrivesAt page_size old new q q' (does.PopAhead ahead bytes) (gives.PoppedAhead (Ok reported))
 ahead_drives page_size old new q q' ahead bytes reported free same pop ws k there u s i os pops push all =
-    let was = all.fits k old there in
-    let by = steps_ahead (last_first pop.first []) old new q q' (outcomes.On reported) pop.walks s i all.queue was.0 was.1
+    let was = all.fits old there in
+    let by = steps_ahead (last_first pop.first []) old new q q' (outcomes.On reported) pop.walks s i.number all.queue was.0 was.1
     all.small in
     popped s i page_size k q q' ws os pops push old new
     (pop_of q by.0) reported
-    (λ es d. Reports (turn i page_size k (desk s ws q os pops push) d old new) (does.PopAhead ahead bytes) u
+    (λ es d. Reports (turn i.number page_size k (desk_before s i ws os pops) d old new q q') (does.PopAhead ahead bytes) u
     (gives.PoppedAhead (Ok reported)) es)
     all there (ap is_out free) same refl
     (λ after os' loads' es reports. (pop, by.0, by.1, reports))
@@ -87,15 +86,11 @@ pub ahead_result : (old new : ChainHandle) (q q' : QueueState) (ahead : Bor (Lis
     → IfOk result (λ reported. PopsAhead (loads_ahead ahead.now bytes.now) old new q q' (outcomes.On reported))
     → (page_size : ℕ) → DrivesOne page_size old new q q' (does.PopAhead ahead bytes) (gives.PoppedAhead result)
 ahead_result old new q q' ahead bytes (Ok reported) err ok same by page_size =
-    ahead_drives page_size old new q q' ahead bytes reported (may_begin old.state q ok)
-    (ahead_keeps (last_first by.first []) old new q q' (outcomes.On reported) by.walks) by
+    drives_one _ _ (ahead_drives page_size old new q q' ahead bytes reported (may_begin old.state q ok)
+    (ahead_keeps (last_first by.first []) old new q q' (outcomes.On reported) by.walks) by)
 ahead_result old new q q' ahead bytes (Err e) err ok same by page_size =
     subst (λ (r : QueueState). DrivesOne page_size old new q r (does.PopAhead ahead bytes)
     (gives.PoppedAhead (Err e))) (sym same.1)
     (refuses page_size old new q (does.PopAhead ahead bytes) (gives.PoppedAhead (Err e))
     (same_held old new same.0)
-    (λ i k d d' u is now. (
-      refl,
-      (same_all old new same.0, now ∙ sym is),
-      subst (λ (r : QueueState). ahead_error old.state r ≡ Some e) (sym is) err,
-    )))
+    (λ i k d d' u. (refl, (same_all old new same.0, refl), err)))

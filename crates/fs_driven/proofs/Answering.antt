@@ -1,7 +1,7 @@
 -- An answer drives the run.
 use Rattle.std.proofs.Common.{◌≡◌, ℕ, true, List, [], ◌∷◌, ◌++◌, length, Option, Some, None}
 use Rattle.std.proofs.Common.{slice_get}
-use Rattle.std.proofs.Common.{refl, subst, sym, ap, ◌∙◌}
+use Rattle.std.proofs.Common.{refl, subst, sym, ap}
 use Rattle.std.specs.Prelude.{Result, Ok, Err, IfErr, IfOk, OnOk, OnErr}
 use Rattle.fs_chain.specs.declared.error.ChainError.{ChainError}
 use Rattle.fs_chain.specs.Walks.{IsAllBut}
@@ -23,8 +23,8 @@ use Rattle.live_machine.specs.Live.{ReceivesAnswer, after_answer}
 use Rattle.live_machine.specs.Live.{asked_chain}
 use Rattle.live_machine.specs.Live.{Happens, room_of, serving}
 use Rattle.fs_chain.specs.Answers.{CanBeGiven, IfWaits, IsGiven, IsNotTaken, IsWaiting}
-use Rattle.fs_driven.specs.Desks.{Begun, Desk, Driven, IsReady, Leads, desk, own, with_pop}
-use Rattle.fs_driven.specs.Reported.{DrivesOne, Reports, Unseen, data_of, forgetting}
+use Rattle.fs_driven.specs.Desks.{Begun, Desk, IsReady, own, with_pop, with_push}
+use Rattle.fs_driven.specs.Reported.{Reports, DrivesOne, Unseen, data_of, forgetting}
 use Rattle.fs_driven.specs.Reported.{turn}
 use Rattle.fs_driven.specs.Preserved.{KeepsMemory}
 use Rattle.fs_chain.specs.Holds.{Answers, ForgettingIs, HoldsChain, served_so}
@@ -41,6 +41,7 @@ use Rattle.fs_chain.specs.declared.queue.QueueState.{QueueState}
 use Rattle.fs_chain.specs.declared.state.ChainState as state
 use Rattle.fs_chain.specs.declared.state.ChainState.TheVariants as at
 use Rattle.fs_driven.proofs.Handles.{Moves, has_own, held_out, keeps, others_same}
+use Rattle.fs_driven.proofs.Spots.{DrivenAt, DrivesAt, LeadsAt, Spot, desk_after, desk_before, drives_one}
 use Rattle.fs_chain.proofs.Together.{chains_of}
 use Rattle.fs_driven.proofs.Calls.{HasNoPush, done_ready, fits_out, length_exactly, refuses}
 use Rattle.fs_driven.proofs.Calls.{replied_no_push, same_all, same_held}
@@ -63,16 +64,16 @@ waits_out (at.Waits out w) is = refl
 waits_out _ is = absurd is
 
 -- T tells of the answer's events
-abbrev AnsweredReports : QueueState → List ChainHandle → Option Begun → List LiveEvent →
+abbrev AnsweredReports : Spot → QueueState → List ChainHandle → Option Begun → List LiveEvent →
     (T : List LiveEvent → Desk → Type 0) → Type 0
-AnsweredReports q ws push es T =
-    (after : Machine) (os : List Owned) (pops : ℕ → Pop) → T es (desk after ws q os pops push)
+AnsweredReports i q ws push es T =
+    (after : Machine) (os : List Owned) (pops : ℕ → Pop) → T es (desk_after after i ws q os pops push)
 
 -- once no call is pending
-pub answered_all : (s : Machine) (i page_size k : ℕ) (q : QueueState) (ws : List ChainHandle) (ob oh : List Owned)
+pub answered_all : (s : Machine) (i : Spot) (page_size k : ℕ) (q : QueueState) (ws : List ChainHandle) (ob oh : List Owned)
     (pops : ℕ → Pop) (push : Option Begun) (old new : ChainHandle) (c : InFlightChain) (request : List ℕ)
     (options : ℕ) (calls : Calls) (after : Machine) (es : List LiveEvent) (T : List LiveEvent → Desk → Type 0)
-    → Driven s i page_size q ws (ob ++ own k c ∷ oh) pops push → slice_get ws k ≡ Some old → c.queue ≡ i →
+    → DrivenAt s i page_size k q ws (ob ++ own k c ∷ oh) pops push → slice_get ws k ≡ Some old → c.queue ≡ i.number →
     KeepsMemory old new
     → HoldsChain s.page_size (asked_chain c request options calls) new
     → HasNoPush new.state
@@ -82,8 +83,8 @@ pub answered_all : (s : Machine) (i page_size k : ℕ) (q : QueueState) (ws : Li
     after.places ≡ s.places
     → after.queues ≡ s.queues → after.chains ≡ chains_of ob ++ asked_chain c request options calls ∷ chains_of
     oh
-    → AnsweredReports q (with_handle ws k new) push es T
-    → Leads s i page_size q (with_handle ws k new) T
+    → AnsweredReports i q (with_handle ws k new) push es T
+    → LeadsAt s i page_size q (with_handle ws k new) T
 answered_all s i page_size k q ws ob oh pops push old new c request options calls after es T all there queue
     same holds quiet done run page limit places queues chains reports =
     let c' : InFlightChain = asked_chain c request options calls in
@@ -94,10 +95,11 @@ answered_all s i page_size k q ws ob oh pops push old new c request options call
       page = page;
       limit = limit;
       places = places;
-      queue = subst (λ (l : List LiveQueue). slice_get l i ≡ Some (live_of q)) (sym queues) all.queue;
+      queue = subst (λ (l : List LiveQueue). slice_get l i.number ≡ Some (live_of q)) (sym queues) all.queue;
+      apart = λ j other. ap (λ (l : List LiveQueue). slice_get l j) queues;
       event = refl;
       fits = fits_out s.places s.limit q (pops k) (pops k) old new same
-          (held_out s.page_size c' c'.phase new.state new.session holds) (all.fits k old there);
+          (held_out s.page_size c' c'.phase new.state new.session holds) (all.fits old there);
       others = others_same page_size k q q push (λ head len. refl);
       still = all.still;
     } in (
@@ -105,7 +107,7 @@ answered_all s i page_size k q ws ob oh pops push old new c request options call
       after,
       ob ++ own k c' ∷ oh,
       with_pop pops k (pops k),
-      push,
+      with_push i.pushes i.number push,
       run,
       keeps s after i page_size q q ws ob oh k old new c c' (pops k) pops push push all there
           moves (λ n has. has) chains holds (queue, ready),
@@ -113,11 +115,11 @@ answered_all s i page_size k q ws ob oh pops push old new c request options call
     )
 
 -- a FORGET that is owed is answered next
-answered_by : (s : Machine) (i page_size k : ℕ) (q : QueueState) (ws : List ChainHandle) (ob oh : List Owned)
+answered_by : (s : Machine) (i : Spot) (page_size k : ℕ) (q : QueueState) (ws : List ChainHandle) (ob oh : List Owned)
     (pops : ℕ → Pop) (push : Option Begun) (old new : ChainHandle) (c : InFlightChain) (request : List ℕ)
     (options : ℕ) (call : FileCall) (x : FileAnswer) (owed : Option (Context × ℕ))
     (T : List LiveEvent → Desk → Type 0)
-    → Driven s i page_size q ws (ob ++ own k c ∷ oh) pops push → slice_get ws k ≡ Some old → c.queue ≡ i →
+    → DrivenAt s i page_size k q ws (ob ++ own k c ∷ oh) pops push → slice_get ws k ≡ Some old → c.queue ≡ i.number →
     KeepsMemory old new
     → Happens any_files s (ReceivesAnswer c call x)
     (after_answer s (chains_of ob) (chains_of oh) c request options ((call, x) ∷ []) tt)
@@ -129,9 +131,9 @@ answered_by : (s : Machine) (i page_size k : ℕ) (q : QueueState) (ws : List Ch
     → ForgettingIs (after_answer s (chains_of ob) (chains_of oh) c request options ((call, x) ∷ []) tt)
     (chains_of ob) (chains_of oh)
     (asked_chain c request options ((call, x) ∷ [])) request options ((call, x) ∷ []) new owed
-    → AnsweredReports q (with_handle ws k new) push
+    → AnsweredReports i q (with_handle ws k new) push
     (ReceivesAnswer c call x ∷ forgetting (asked_chain c request options ((call, x) ∷ [])) owed) T
-    → Leads s i page_size q (with_handle ws k new) T
+    → LeadsAt s i page_size q (with_handle ws k new) T
 answered_by s i page_size k q ws ob oh pops push old new c request options call x None T all there queue same
     happens holds quiet calls forgets reports =
     let after = after_answer s (chains_of ob) (chains_of oh) c request options ((call, x) ∷ []) tt in
@@ -169,10 +171,10 @@ KeepsAnswered old new =
 answer_drives : (page_size : ℕ) (old new : ChainHandle) (q : QueueState) (serial : ℕ)
     (a : made_answer.FileAnswer) (reported : Replied)
     → IsWaiting old.state → GivenSo old new a reported → Answers old new a reported → KeepsAnswered old new
-    → DrivesOne page_size old new q q (does.Answer serial a) (gives.Answered (Ok reported))
-unfolding DrivesOne Answers
+    → DrivesAt page_size old new q q (does.Answer serial a) (gives.Answered (Ok reported))
+unfolding Answers
 answer_drives page_size old new q serial a reported waits given answers kept ws k there u s i os pops push all =
-    let own_one = all.outs k old there (waits_out old.state waits) in
+    let own_one = all.outs old there (waits_out old.state waits) in
     let c = own_one.0 in
     let has = has_own s i page_size q ws os k old c pops push all there own_one.1 in
     let asked = waits_asked s.page_size c c.phase old.state old.session waits has.holds in
@@ -181,10 +183,10 @@ answer_drives page_size old new q serial a reported waits given answers kept ws 
     has.holds (data_reported a u) in
     answered_by s i page_size k q ws has.ob has.oh pops push old new c asked.0 asked.1 an.0 (answer_of bytes a)
     reported.forget
-    (λ es d. Reports (turn i page_size k (desk s ws q os pops push) d old new) (does.Answer serial a) u
+    (λ es d. Reports (turn i.number page_size k (desk_before s i ws os pops) d old new q q) (does.Answer serial a) u
     (gives.Answered (Ok reported)) es)
     has.driven there
-    (all.mine k old c there own_one.1).0 (kept.0.0.0, kept.0.0.1) an.1.0 an.1.1
+    (all.mine old c there own_one.1).0 (kept.0.0.0, kept.0.0.1) an.1.0 an.1.1
     (replied_no_push (served_so s.page_size asked.1 asked.0
     (length (addresses_of (writable c.descriptors))) ((an.0, answer_of bytes a) ∷ [])).reply bytes new.state
     an.1.4)
@@ -204,7 +206,7 @@ pub answer_result : (old new : ChainHandle) (q : QueueState) (serial : ℕ) (a :
     → IfOk result (λ reported. Answers old new a reported)
     → (page_size : ℕ) → DrivesOne page_size old new q q (does.Answer serial a) (gives.Answered result)
 answer_result old new q serial a (Ok reported) given taken err same page stay step page_size =
-    answer_drives page_size old new q serial a reported taken.0 given step (stay, page)
+    drives_one _ _ (answer_drives page_size old new q serial a reported taken.0 given step (stay, page))
 answer_result old new q serial a (Err e) given taken err same page stay step page_size =
     refuses page_size old new q (does.Answer serial a) (gives.Answered (Err e)) (same_held old new same)
-    (λ i k d d' u is now. (refl, (same_all old new same, now ∙ sym is), err))
+    (λ i k d d' u. (refl, (same_all old new same, refl), err))

@@ -54,21 +54,21 @@ is_over : (s : Machine) (w : ChainHandle) (regions : Mapped) (limit : ℕ) → I
 is_over s w regions limit new same places =
     (new.0, places ∙ ap places_in (sym new.1), same ∙ sym new.2)
 
-pub runs_from_new : (page_size limit : ℕ) (first second : Mapped) (one other : ChainHandle) (q q' : QueueState)
-    (ws : List ChainHandle) (calls : List Called)
+pub runs_from_new : (on : List ℕ) (page_size limit : ℕ) (first second : Mapped) (one other : ChainHandle)
+    (qs qs' : List QueueState) (ws : List ChainHandle) (calls : List Called)
     → BeginsDriven → IsNew first limit one → IsNew second limit other
-    → Drives page_size (one ∷ other ∷ []) ws q q' calls
-    → RunsFromNew page_size limit first second q q' ws calls
+    → Drives on page_size (one ∷ other ∷ []) ws qs qs' calls
+    → RunsFromNew on page_size limit first second qs qs' ws calls
 unfolding RunsFromNew Drives
-runs_from_new page_size limit first second one other q q' ws calls begins new_one new_other drives zs is s i none
-    queue page same places both = (
+runs_from_new on page_size limit first second one other qs qs' ws calls begins new_one new_other drives zs is s none
+    queues page same places both = (
       one,
       other,
       new_one,
       new_other,
-      drives zs is s i [] (λ _. no_pop) None
-          (begins s i page_size q (one ∷ other ∷ []) none queue page (subst (λ (n : ℕ). n ≤ 2 ^ 31) (sym same) new_one.3)
-          (λ k w there. each k w there)),
+      drives zs is s [] (λ _. no_pop) (λ _. None)
+          (begins s on page_size qs (one ∷ other ∷ []) none queues page
+          (subst (λ (n : ℕ). n ≤ 2 ^ 31) (sym same) new_one.3) (λ k w there. each k w there)),
     )
   where
     each : (k : ℕ) (w : ChainHandle) → slice_get (one ∷ other ∷ []) k ≡ Some w → IsOver s w

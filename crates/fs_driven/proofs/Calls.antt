@@ -22,7 +22,7 @@ use Rattle.live_machine.specs.Live.{asked_chain, pop_refusal}
 use Rattle.live_machine.specs.Live.{room_of, serving}
 use Rattle.fuse_values.specs.declared.call.FileCall as made_call
 use Rattle.fs_chain.specs.Decoding.{KeepsCall, KeepsReply}
-use Rattle.fs_driven.specs.Desks.{Begun, Desk, Driven, FitsRun, IsReady, Leads, MayPop, desk, own, with_pop}
+use Rattle.fs_driven.specs.Desks.{Begun, Desk, FitsRun, IsReady, MayPop, own, with_pop, with_push}
 use Rattle.fs_driven.specs.Reported.{DrivesOne, Reports, Unseen, exactly}
 use Rattle.fs_driven.specs.Reported.{turn}
 use Rattle.fs_driven.specs.Preserved.{IsSameHeld, KeepsMemory}
@@ -42,6 +42,7 @@ use Rattle.fs_chain.specs.declared.state.ChainState as state
 use Rattle.fs_chain.specs.declared.state.ChainState.TheVariants as at
 use Rattle.fs_chain.specs.declared.state.InFlight.{InFlight}
 use Rattle.fs_driven.proofs.Counts.{same_count}
+use Rattle.fs_driven.proofs.Spots.{DrivenAt, DrivesAt, LeadsAt, Spot, desk_after, desk_before, drives_one}
 use Rattle.fs_driven.proofs.Handles.{Moves, SamePlaces, has_own, idles, keeps, not_free, others_same}
 
 -- ---- a call that is refused
@@ -105,8 +106,8 @@ fits_out places limit q p r old new same out fits =
     (fits.0 ∙ ap places_in (sym same.0), fits.1 ∙ sym same.1, may_out limit q r new new.state out)
 
 -- nothing happens, but the queue may be in a push
-pub stays_put : (s : Machine) (i page_size k : ℕ) (q q' : QueueState) (p : Pop) (push : Option Begun)
-    (new : ChainHandle) → IsQueue s i q' → SameEventIndex q' q → SamePlaces q q' →
+pub stays_put : (s : Machine) (i : Spot) (page_size k : ℕ) (q q' : QueueState) (p : Pop) (push : Option Begun)
+    (new : ChainHandle) → IsQueue s i.number q' → SameEventIndex q' q → SamePlaces q q' →
     q'.pushing ≡ q.pushing → (q.pushing ≡ false → push ≡ None)
     → FitsRun s.places s.limit q p new → Moves s s i page_size k q q' p push push new
 stays_put s i page_size k q q' p push new there event same pushing still fits =
@@ -115,6 +116,7 @@ stays_put s i page_size k q q' p push new there event same pushing still fits =
       limit = refl;
       places = refl;
       queue = there;
+      apart = λ j other. refl;
       event = event;
       fits = fits;
       others = others_same page_size k q q' push same;
@@ -122,28 +124,28 @@ stays_put s i page_size k q q' p push new there event same pushing still fits =
     }
 
 -- T tells of no events, whatever the handles hold
-abbrev pub ReportsNone : Machine → QueueState → List ChainHandle → Option Begun →
+abbrev pub ReportsNone : Machine → Spot → QueueState → List ChainHandle → Option Begun →
     (T : List LiveEvent → Desk → Type 0) → Type 0
-ReportsNone s q ws push T = (os : List Owned) (pops : ℕ → Pop) → T [] (desk s ws q os pops push)
+ReportsNone s i q ws push T = (os : List Owned) (pops : ℕ → Pop) → T [] (desk_after s i ws q os pops push)
 
-pub stays : (s : Machine) (i page_size k : ℕ) (q : QueueState) (ws : List ChainHandle) (os : List Owned)
+pub stays : (s : Machine) (i : Spot) (page_size k : ℕ) (q : QueueState) (ws : List ChainHandle) (os : List Owned)
     (pops : ℕ → Pop) (push : Option Begun) (old new : ChainHandle) (T : List LiveEvent → Desk → Type 0)
-    → Driven s i page_size q ws os pops push → slice_get ws k ≡ Some old → IsSameHeld old new
-    → ReportsNone s q (with_handle ws k new) push T
-    → Leads s i page_size q (with_handle ws k new) T
+    → DrivenAt s i page_size k q ws os pops push → slice_get ws k ≡ Some old → IsSameHeld old new
+    → ReportsNone s i q (with_handle ws k new) push T
+    → LeadsAt s i page_size q (with_handle ws k new) T
 stays s i page_size k q ws os pops push old new T all there same reports = by_out (is_out old.state) refl
   where
     moves : Moves s s i page_size k q q (pops k) push push new
     moves =
         stays_put s i page_size k q q (pops k) push new all.queue refl (λ head len. refl) refl all.still
-        (fits_same s.places s.limit q (pops k) old new same (all.fits k old there))
+        (fits_same s.places s.limit q (pops k) old new same (all.fits old there))
 
-    by_out : (b : Bool) → is_out old.state ≡ b → Leads s i page_size q (with_handle ws k new) T
+    by_out : (b : Bool) → is_out old.state ≡ b → LeadsAt s i page_size q (with_handle ws k new) T
     by_out true out =
-        let own_one = all.outs k old there out in
+        let own_one = all.outs old there out in
         let c = own_one.0 in
         let has = has_own s i page_size q ws os k old c pops push all there own_one.1 in
-        let mine = all.mine k old c there own_one.1 in
+        let mine = all.mine old c there own_one.1 in
         let holds = holds_same s.page_size c old new same has.holds in
         let ready : IsReady page_size k q push c new.state =
         subst (λ (st : state.ChainState). IsReady page_size k q push c st) (sym same.0) mine.1 in (
@@ -151,7 +153,7 @@ stays s i page_size k q ws os pops push old new T all there same reports = by_ou
           s,
           has.ob ++ own k c ∷ has.oh,
           with_pop pops k (pops k),
-          push,
+          with_push i.pushes i.number push,
           refl,
           keeps s s i page_size q q ws has.ob has.oh k old new c c (pops k) pops push push has.driven there
               moves (λ n counts. counts) has.chains holds (mine.0, ready),
@@ -162,7 +164,7 @@ stays s i page_size k q ws os pops push old new T all there same reports = by_ou
       s,
       os,
       with_pop pops k (pops k),
-      push,
+      with_push i.pushes i.number push,
       refl,
       idles s s i page_size q q ws os k old new (pops k) pops push push all there moves (λ n counts. counts) refl free
           (ap is_out same.0 ∙ free),
@@ -173,16 +175,17 @@ stays s i page_size k q ws os pops push old new T all there same reports = by_ou
 pub refuses : (page_size : ℕ) (old new : ChainHandle) (q : QueueState) (command : Command)
     (returned : Returned)
     → IsSameHeld old new
-    → ((i k : ℕ) (d d' : Desk) (u : Unseen) → d.queue ≡ q → d'.queue ≡ q →
-    Reports (turn i page_size k d d' old new) command u returned [])
+    → ((i k : ℕ) (d d' : Desk) (u : Unseen) → Reports (turn i page_size k d d' old new q q) command u returned [])
     → DrivesOne page_size old new q q command returned
-unfolding DrivesOne
-refuses page_size old new q command returned same reports ws k there u s i os pops push all =
-    stays s i page_size k q ws os pops push old new
-    (λ es d. Reports (turn i page_size k (desk s ws q os pops push) d old new) command u returned es) all there
-    same
-    (λ after loads'. reports i k (desk s ws q os pops push) (desk s (with_handle ws k new) q after loads' push) u
-    refl refl)
+refuses page_size old new q command returned same reports = drives_one command returned at_spot
+  where
+    at_spot : DrivesAt page_size old new q q command returned
+    at_spot ws k there u s i os pops push all =
+        stays s i page_size k q ws os pops push old new
+        (λ es d. Reports (turn i.number page_size k (desk_before s i ws os pops) d old new q q) command u returned es)
+        all there same
+        (λ after loads'. reports i.number k (desk_before s i ws os pops)
+        (desk_after s i (with_handle ws k new) q after loads' push) u)
 
 pub same_held : (old new : ChainHandle) → new ≡ old → IsSameHeld old new
 same_held old new same = (
@@ -296,17 +299,17 @@ pub no_error : {A : Type 0} (x : A) → Some x ≡ None → ⊥
 no_error {A} x e = subst (λ (o : Option A). IsNone o) (sym e) tt
 
 -- a pop that asks for more, or got a part of a load
-pub still : (s : Machine) (i page_size k : ℕ) (q q' : QueueState) (ws : List ChainHandle) (os : List Owned)
+pub still : (s : Machine) (i : Spot) (page_size k : ℕ) (q q' : QueueState) (ws : List ChainHandle) (os : List Owned)
     (pops : ℕ → Pop) (push : Option Begun) (old new : ChainHandle) (p : Pop)
     (T : List LiveEvent → Desk → Type 0)
-    → Driven s i page_size q ws os pops push → slice_get ws k ≡ Some old → is_out old.state ≡ false →
+    → DrivenAt s i page_size k q ws os pops push → slice_get ws k ≡ Some old → is_out old.state ≡ false →
     KeepsMemory old new
     → IsPopOf q p
     → HoldsPop s.limit p new × (q' ≡ q)
-    → T [] (desk s (with_handle ws k new) q' os (with_pop pops k p) push)
-    → Leads s i page_size q' (with_handle ws k new) T
+    → T [] (desk_after s i (with_handle ws k new) q' os (with_pop pops k p) push)
+    → LeadsAt s i page_size q' (with_handle ws k new) T
 still s i page_size k q q' ws os pops push old new p T all there free same event is reports =
-    let was = all.fits k old there in
+    let was = all.fits old there in
     let may : MayPop s.limit q p new new.state =
     subst (λ (st : state.ChainState). MayPop s.limit q p new st) (sym is.0.state)
     (is.0, event) in (
@@ -314,11 +317,11 @@ still s i page_size k q q' ws os pops push old new p T all there free same event
       s,
       os,
       with_pop pops k p,
-      push,
+      with_push i.pushes i.number push,
       refl,
       idles s s i page_size q q' ws os k old new p pops push push all there
           (stays_put s i page_size k q q' p push new
-          (subst (λ (r : QueueState). IsQueue s i r) (sym is.1) all.queue)
+          (subst (λ (r : QueueState). IsQueue s i.number r) (sym is.1) all.queue)
           (same_index q' _ is.1)
           (λ head len. ap (λ (r : QueueState). stores_after_reply (returning (live_of r)) head len) is.1)
           (ap (λ (r : QueueState). r.pushing) is.1) all.still

@@ -1,6 +1,6 @@
 -- How many chains of a queue are in flight, as one is popped, pushed or given up.
 use Rattle.std.proofs.Common.{◌≡◌, ◌+◌, ◌-◌, ◌%◌, ◌<◌, ◌≤◌, ◌^◌, ℕ, suc, Bool, true, false, List, [], ◌∷◌, ◌++◌}
-use Rattle.std.proofs.Common.{arith, length, refl, subst, sym, ap}
+use Rattle.std.proofs.Common.{◌==◌, ◌∙◌, arith, eq-eqb, eqb-true, refl, subst, sym, ap}
 use Rattle.std.specs.Prelude.{IsTrue, if◌then◌else◌}
 use Rattle.std.proofs.lemmas.Bool.{ltb-true}
 use Rattle.fs_queue.specs.declared.fault.QueueError.{QueueError}
@@ -10,7 +10,8 @@ use Rattle.live_machine.specs.Several.{LiveQueue, gave, gave_up, in_flight, may_
 use Rattle.fs_chain.specs.Holds.{live_of}
 use Rattle.fs_chain.specs.Queues as queues
 use Rattle.fs_chain.specs.declared.queue.QueueState.{QueueState}
-use Rattle.fs_driven.specs.Desks.{HasInFlight}
+use Rattle.fs_chain.specs.Together.{Owned}
+use Rattle.fs_driven.specs.Desks.{HasInFlight, number_of}
 
 -- as many as before, one more, or one less
 abbrev pub CountsSame : (w w' : LiveQueue) → Type 0
@@ -66,16 +67,38 @@ refused_counts w e n has = by_stop (stops_queue e)
     by_stop true = has
     by_stop false = has
 
--- ---- the length of a list with one more
+-- ---- the chains of a queue with one more
 
-pub with_one : {A : Type 0} (xs ys : List A) (x : A) → length (xs ++ x ∷ ys) ≡ suc (length (xs ++ ys))
-with_one [] ys x = refl
-with_one {A} (z ∷ xs) ys x = ap suc (with_one xs ys x)
+pub number_other : (i : ℕ) (xs ys : List Owned) (x y : Owned) → x.chain.queue ≡ y.chain.queue →
+    number_of i (xs ++ x ∷ ys) ≡ number_of i (xs ++ y ∷ ys)
+number_other i [] ys x y same =
+    ap (λ (n : ℕ). if n == i then suc (number_of i ys) else number_of i ys) same
+number_other i (z ∷ xs) ys x y same =
+    ap (λ (n : ℕ). if z.chain.queue == i then suc n else n) (number_other i xs ys x y same)
 
-pub with_last : {A : Type 0} (xs : List A) (x : A) → length (xs ++ x ∷ []) ≡ suc (length xs)
-with_last [] x = refl
-with_last {A} (z ∷ xs) x = ap suc (with_last xs x)
+-- one more, if it is of the queue
+number_by : (i : ℕ) (xs ys : List Owned) (x : Owned) (b : Bool) → (x.chain.queue == i) ≡ b →
+    number_of i (xs ++ x ∷ ys) ≡ (if b then suc (number_of i (xs ++ ys)) else number_of i (xs ++ ys))
+number_by i [] ys x b is = ap (λ (t : Bool). if t then suc (number_of i ys) else number_of i ys) is
+number_by i (z ∷ xs) ys x b is =
+    ap (λ (n : ℕ). if z.chain.queue == i then suc n else n) (number_by i xs ys x b is)
+    ∙ swapped (z.chain.queue == i) b (number_of i (xs ++ ys))
+  where
+    swapped : (a b : Bool) (n : ℕ) → (if a then suc (if b then suc n else n) else (if b then suc n else n))
+        ≡ (if b then suc (if a then suc n else n) else (if a then suc n else n))
+    swapped true true n = refl
+    swapped true false n = refl
+    swapped false true n = refl
+    swapped false false n = refl
 
-pub with_other : {A : Type 0} (xs ys : List A) (x y : A) → length (xs ++ x ∷ ys) ≡ length (xs ++ y ∷ ys)
-with_other [] ys x y = refl
-with_other {A} (z ∷ xs) ys x y = ap suc (with_other xs ys x y)
+pub number_one : (i : ℕ) (xs ys : List Owned) (x : Owned) → x.chain.queue ≡ i →
+    number_of i (xs ++ x ∷ ys) ≡ suc (number_of i (xs ++ ys))
+number_one i xs ys x is = number_by i xs ys x true (eq-eqb x.chain.queue i is)
+
+pub number_same : (i : ℕ) (xs ys : List Owned) (x : Owned) → (x.chain.queue ≡ i → ⊥) →
+    number_of i (xs ++ x ∷ ys) ≡ number_of i (xs ++ ys)
+number_same i xs ys x apart = by_test (x.chain.queue == i) refl
+  where
+    by_test : (b : Bool) → (x.chain.queue == i) ≡ b → number_of i (xs ++ x ∷ ys) ≡ number_of i (xs ++ ys)
+    by_test true is = absurd (apart (eqb-true x.chain.queue i is))
+    by_test false is = number_by i xs ys x false is

@@ -22,7 +22,7 @@ use Rattle.live_machine.specs.Live.{after_decoding}
 use Rattle.live_machine.specs.Live.{asked_chain}
 use Rattle.live_machine.specs.Live.{Happens, room_of_phase, serving}
 use Rattle.fs_chain.specs.Decoding.{IfUndecoded, ReportsMeaning, wanted_after, wanted_by}
-use Rattle.fs_driven.specs.Desks.{Begun, Desk, Driven, FitsRun, In, IsReady, Leads, desk, own, with_pop}
+use Rattle.fs_driven.specs.Desks.{Begun, Desk, FitsRun, In, IsReady, own, with_pop, with_push}
 use Rattle.fs_driven.specs.Reported.{DrivesOne, Reports, Unseen, asked_len_of, exactly}
 use Rattle.fs_driven.specs.Reported.{request_of, setting_of, turn}
 use Rattle.fs_driven.specs.Preserved.{KeepsMemory}
@@ -41,7 +41,9 @@ use Rattle.fs_chain.specs.declared.state.ChainState as state
 use Rattle.fs_chain.specs.declared.state.ChainState.TheVariants as at
 use Rattle.fs_chain.specs.declared.state.InFlight.{InFlight}
 use Rattle.live_machine.proofs.Moved.{joined}
-use Rattle.fs_driven.proofs.Handles.{Moves, has_own, held_out, here, keeps, others_same}
+use Rattle.fs_driven.proofs.Among.{here}
+use Rattle.fs_driven.proofs.Handles.{Moves, has_own, held_out, keeps, others_same}
+use Rattle.fs_driven.proofs.Spots.{DrivenAt, DrivesAt, LeadsAt, Spot, desk_after, desk_before, drives_one}
 use Rattle.fs_chain.proofs.Together.{chains_of}
 use Rattle.fs_driven.proofs.Calls.{taken_out}
 use Rattle.fs_driven.proofs.Calls.{HasNoPush, ReportsNone, call_waits, done_ready, fetched_ready}
@@ -64,18 +66,18 @@ decoding options now c request reported =
     setting_of options now ++ DecodesRequest c request (calls_decoded (drop 80 request) reported) ∷ []
 
 -- T tells of the events of a decoding
-abbrev DecodedReports : Machine → QueueState → List ChainHandle → ℕ → Option Begun → InFlightChain →
+abbrev DecodedReports : Machine → Spot → QueueState → List ChainHandle → ℕ → Option Begun → InFlightChain →
     (request : List ℕ) → (options : ℕ) → Decoded → (T : List LiveEvent → Desk → Type 0) → Type 0
-DecodedReports s q ws k push c request options reported T =
+DecodedReports s i q ws k push c request options reported T =
     (after : Machine) (os : List Owned) (pops : ℕ → Pop) →
     In (own k (asked_chain c request options [])) os →
     T (setting_of options s.options ++ DecodesRequest c request (calls_decoded (drop 80 request) reported) ∷ [])
-    (desk after ws q os pops push)
+    (desk_after after i ws q os pops push)
 
-decoded_so : (s : Machine) (i page_size k : ℕ) (q : QueueState) (ws : List ChainHandle) (ob oh : List Owned)
+decoded_so : (s : Machine) (i : Spot) (page_size k : ℕ) (q : QueueState) (ws : List ChainHandle) (ob oh : List Owned)
     (pops : ℕ → Pop) (push : Option Begun) (old new : ChainHandle) (c : InFlightChain) (request : List ℕ)
     (options : ℕ) (reported : Decoded) (T : List LiveEvent → Desk → Type 0)
-    → Driven s i page_size q ws (ob ++ own k c ∷ oh) pops push → slice_get ws k ≡ Some old → c.queue ≡ i →
+    → DrivenAt s i page_size k q ws (ob ++ own k c ∷ oh) pops push → slice_get ws k ≡ Some old → c.queue ≡ i.number →
     KeepsMemory old new
     → FitsRun s.places s.limit q (pops k) old
     → Happens any_files (record s { options = options })
@@ -83,8 +85,8 @@ decoded_so : (s : Machine) (i page_size k : ℕ) (q : QueueState) (ws : List Cha
     (after_decoding (record s { options = options }) (chains_of ob) (chains_of oh) c request)
     × HoldsChain s.page_size (asked_chain c request options []) new
     → IsReady page_size k q push (asked_chain c request options []) new.state
-    → DecodedReports s q (with_handle ws k new) k push c request options reported T
-    → Leads s i page_size q (with_handle ws k new) T
+    → DecodedReports s i q (with_handle ws k new) k push c request options reported T
+    → LeadsAt s i page_size q (with_handle ws k new) T
 decoded_so s i page_size k q ws ob oh pops push old new c request options reported T all there queue same fits proceeds
     ready reports =
     let mid : Machine = record s { options = options } in
@@ -96,6 +98,7 @@ decoded_so s i page_size k q ws ob oh pops push old new c request options report
       limit = refl;
       places = refl;
       queue = all.queue;
+      apart = λ j other. refl;
       event = refl;
       fits = fits_out s.places s.limit q (pops k) (pops k) old new same
           (held_out s.page_size c' c'.phase new.state new.session proceeds.1) fits;
@@ -106,7 +109,7 @@ decoded_so s i page_size k q ws ob oh pops push old new c request options report
       after,
       ob ++ own k c' ∷ oh,
       with_pop pops k (pops k),
-      push,
+      with_push i.pushes i.number push,
       joined any_files s mid after (setting_of options s.options) (e ∷ []) (sets_run s options)
           (after, proceeds.0, refl),
       keeps s after i page_size q q ws ob oh k old new c c' (pops k) pops push push all there moves (λ n has. has) refl
@@ -115,17 +118,17 @@ decoded_so s i page_size k q ws ob oh pops push old new c request options report
     )
 
 -- a decoding that needs more bytes
-decodes_more : (s : Machine) (i page_size k : ℕ) (q : QueueState) (ws : List ChainHandle) (ob oh : List Owned)
+decodes_more : (s : Machine) (i : Spot) (page_size k : ℕ) (q : QueueState) (ws : List ChainHandle) (ob oh : List Owned)
     (pops : ℕ → Pop) (push : Option Begun) (old new : ChainHandle) (c : InFlightChain)
     (T : List LiveEvent → Desk → Type 0)
-    → Driven s i page_size q ws (ob ++ own k c ∷ oh) pops push → slice_get ws k ≡ Some old → c.queue ≡ i →
+    → DrivenAt s i page_size k q ws (ob ++ own k c ∷ oh) pops push → slice_get ws k ≡ Some old → c.queue ≡ i.number →
     c.phase ≡ Fetched →
     KeepsMemory old new
     → FitsRun s.places s.limit q (pops k) old
     → HoldsChain s.page_size c new
     → s.chains ≡ chains_of ob ++ c ∷ chains_of oh
-    → ReportsNone s q (with_handle ws k new) push T
-    → Leads s i page_size q (with_handle ws k new) T
+    → ReportsNone s i q (with_handle ws k new) push T
+    → LeadsAt s i page_size q (with_handle ws k new) T
 decodes_more s i page_size k q ws ob oh pops push old new c T all there queue fresh same fits holds chains
     reports =
     let moves : Moves s s i page_size k q q (pops k) push push new =
@@ -136,7 +139,7 @@ decodes_more s i page_size k q ws ob oh pops push old new c T all there queue fr
       s,
       ob ++ own k c ∷ oh,
       with_pop pops k (pops k),
-      push,
+      with_push i.pushes i.number push,
       refl,
       keeps s s i page_size q q ws ob oh k old new c c (pops k) pops push push all there moves (λ n has. has) chains holds
           (queue, fetched_ready page_size s.page_size k q push c c.phase new.state new.session fresh holds),
@@ -144,25 +147,25 @@ decodes_more s i page_size k q ws ob oh pops push old new c T all there queue fr
     )
 
 -- what a decoding's result is owed, by the result
-abbrev DecodingReports : Machine → QueueState → List ChainHandle → ℕ → Option Begun → InFlightChain →
+abbrev DecodingReports : Machine → Spot → QueueState → List ChainHandle → ℕ → Option Begun → InFlightChain →
     (request : List ℕ) → (options : ℕ) → Decoded → (T : List LiveEvent → Desk → Type 0) → Type 0
-DecodingReports s q ws k push c request options (asks.More n) T = ReportsNone s q ws push T
-DecodingReports s q ws k push c request options reported T =
-    DecodedReports s q ws k push c request options reported T
+DecodingReports s i q ws k push c request options (asks.More n) T = ReportsNone s i q ws push T
+DecodingReports s i q ws k push c request options reported T =
+    DecodedReports s i q ws k push c request options reported T
 
-decoded_by : (s : Machine) (i page_size k : ℕ) (q : QueueState) (ws : List ChainHandle) (ob oh : List Owned)
+decoded_by : (s : Machine) (i : Spot) (page_size k : ℕ) (q : QueueState) (ws : List ChainHandle) (ob oh : List Owned)
     (pops : ℕ → Pop) (push : Option Begun) (old new : ChainHandle) (c : InFlightChain) (request : List ℕ)
     (options : ℕ) (reported : Decoded) (st : Setting) (m : Meaning) (bytes : List ℕ) (out : InFlight)
     (T : List LiveEvent → Desk → Type 0)
-    → Driven s i page_size q ws (ob ++ own k c ∷ oh) pops push → slice_get ws k ≡ Some old → c.queue ≡ i →
+    → DrivenAt s i page_size k q ws (ob ++ own k c ∷ oh) pops push → slice_get ws k ≡ Some old → c.queue ≡ i.number →
     c.phase ≡ Fetched →
     KeepsMemory old new
     → FitsRun s.places s.limit q (pops k) old
     → DecodingIs (record s { options = options }) (chains_of ob) (chains_of oh) c request new reported
     → s.chains ≡ chains_of ob ++ c ∷ chains_of oh
     → ReportsMeaning st m bytes out reported new.state
-    → DecodingReports s q (with_handle ws k new) k push c request options reported T
-    → Leads s i page_size q (with_handle ws k new) T
+    → DecodingReports s i q (with_handle ws k new) k push c request options reported T
+    → LeadsAt s i page_size q (with_handle ws k new) T
 decoded_by s i page_size k q ws ob oh pops push old new c request options (asks.More n) st m bytes out T all
     there queue fresh same fits holds chains means reports =
     decodes_more s i page_size k q ws ob oh pops push old new c T all there queue fresh same fits holds chains
@@ -238,15 +241,15 @@ abbrev pub KeepsAsked : Session → (old new : ChainHandle) → Type 0
 KeepsAsked session old new =
     (IsAllBut old new × (new.descriptors ≡ old.descriptors) × (new.part ≡ old.part)) × (new.session ≡ session)
 
-decode_reports : (s : Machine) (i page_size k : ℕ) (q : QueueState) (ws ws' : List ChainHandle) (os : List Owned)
+decode_reports : (s : Machine) (i : Spot) (page_size k : ℕ) (q : QueueState) (ws ws' : List ChainHandle) (os : List Owned)
     (pops : ℕ → Pop) (push : Option Begun) (old new : ChainHandle) (c : InFlightChain) (session : Session)
     (front : Bor (List ℕ)) (u : Unseen) (reported : Decoded)
     → In (own k c) os → wanted_by reported ≡ wanted_after front.now (asked_len_of old.state)
     → IfUndecoded old.state
     (ReportsRequest session (request_of front.now u (asked_len_of old.state)) reported new)
     → KeepsAsked session old new
-    → DecodingReports s q ws' k push c (request_of front.now u (asked_len_of old.state)) session.options.0 reported
-    (λ es d. Reports (turn i page_size k (desk s ws q os pops push) d old new) (does.Decode session front) u
+    → DecodingReports s i q ws' k push c (request_of front.now u (asked_len_of old.state)) session.options.0 reported
+    (λ es d. Reports (turn i.number page_size k (desk_before s i ws os pops) d old new q q) (does.Decode session front) u
     (gives.Decoded (Ok reported)) es)
 decode_reports s i page_size k q ws ws' os pops push old new c session front u (asks.More n) mine wanted means kept =
     λ after loads'. (wanted, means, (kept.0, refl), kept.1, refl)
@@ -259,11 +262,11 @@ decode_taken : (old new : ChainHandle) (q : QueueState) (session : Session) (fro
     → wanted_by reported ≡ wanted_after front.now out.request_len
     → KeepsAsked session old new
     → Decodes old new session front.now reported
-    → DrivesOne session.page_size old new q q (does.Decode session front) (gives.Decoded (Ok reported))
-unfolding DrivesOne Decodes
+    → DrivesAt session.page_size old new q q (does.Decode session front) (gives.Decoded (Ok reported))
+unfolding Decodes
 decode_taken old new q session front reported out is fits means wanted kept decodes ws k there u s i os pops push
     all =
-    let own_one = all.outs k old there (ap is_out is) in
+    let own_one = all.outs old there (ap is_out is) in
     let c = own_one.0 in
     let has = has_own s i session.page_size q ws os k old c pops push all there own_one.1 in
     let o = taken_out s.page_size c c.phase old.state old.session out is has.holds in
@@ -286,9 +289,9 @@ decode_taken old new q session front reported out is fits means wanted kept deco
     decoded_by s i session.page_size k q ws has.ob has.oh pops push old new c request options reported
     (setting session.page_size options out.room_len)
     (meaning options request out.room_len) (drop 80 request) out
-    (λ es d. Reports (turn i session.page_size k (desk s ws q os pops push) d old new)
+    (λ es d. Reports (turn i.number session.page_size k (desk_before s i ws os pops) d old new q q)
     (does.Decode session front) u (gives.Decoded (Ok reported)) es)
-    has.driven there (all.mine k old c there own_one.1).0 o.0 (kept.0.0.0, kept.0.0.1) (all.fits k old there) d has.chains so
+    has.driven there (all.mine old c there own_one.1).0 o.0 (kept.0.0.0, kept.0.0.1) (all.fits old there) d has.chains so
     (decode_reports s i session.page_size k q ws (with_handle ws k new) os pops push old new c session front u
     reported own_one.1 wanted_if so_if kept)
 
@@ -300,7 +303,7 @@ decode_at : (old new : ChainHandle) (q : QueueState) (session : Session) (front 
     → Decodes old new session front.now reported
     → DrivesOne session.page_size old new q q (does.Decode session front) (gives.Decoded (Ok reported))
 decode_at old new q session front reported (at.Taken out) is fits means wanted same decodes =
-    decode_taken old new q session front reported out is fits means wanted same decodes
+    drives_one _ _ (decode_taken old new q session front reported out is fits means wanted same decodes)
 decode_at old new q session front reported _ is fits means wanted same decodes = absurd fits
 
 -- ---- by what the call ensures
@@ -332,9 +335,9 @@ decode_result old new q session front (Ok reported) err ok reports wanted same s
 decode_result old new q session front (Err e) err ok reports wanted same stay kept step page_size page =
     refuses page_size old new q (does.Decode session front) (gives.Decoded (Err e))
     (stay.0, stay.1, same.0.0, same.0.1, items_same old new same.1)
-    (λ i k d d' u is now. (
+    (λ i k d d' u. (
       refl,
-      ((same.0, stay.0, items_same old new same.1, part_same old new same.2, stay.1), now ∙ sym is),
+      ((same.0, stay.0, items_same old new same.1, part_same old new same.2, stay.1), refl),
       err,
     ))
 
@@ -343,4 +346,4 @@ pub other_session : (page_size : ℕ) (old : ChainHandle) (q : QueueState) (sess
     → DrivesOne page_size old old q q (does.Decode session front) gives.OtherSession
 other_session page_size old q session front other =
     refuses page_size old old q (does.Decode session front) gives.OtherSession (same_held old old refl)
-    (λ i k d d' u is now. (refl, (refl, now ∙ sym is), other))
+    (λ i k d d' u. (refl, (refl, refl), other))

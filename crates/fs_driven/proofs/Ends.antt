@@ -16,11 +16,13 @@ use Rattle.fs_queue.specs.ReturningView.{stores_of}
 use Rattle.fs_regions.specs.Places.{places_in}
 use Rattle.plain_machine.specs.Step.{Exchange}
 use Rattle.live_machine.specs.Several.{returning}
+use Rattle.live_machine.specs.Several as several
+use Rattle.live_machine.proofs.Queues.{there_other}
 use Rattle.live_machine.specs.Live.{InFlightChain}
 use Rattle.live_machine.specs.Live.{PushedWith, PushesChain}
 use Rattle.live_machine.specs.Live.{after_push}
 use Rattle.live_machine.specs.Live.{GivesUpChain, after_giving_up}
-use Rattle.fs_driven.specs.Desks.{Begun, FitsRun, IsReady, IsUnderWay, Leads, MayPop, desk, own}
+use Rattle.fs_driven.specs.Desks.{Begun, FitsRun, IsReady, IsUnderWay, MayPop, own, with_push}
 use Rattle.fs_driven.specs.Desks.{no_pop, with_pop}
 use Rattle.fs_driven.specs.Reported.{DrivesOne, GiveUpReports, Reports, Unseen, asked_len_of, exactly, replied_to}
 use Rattle.fs_driven.specs.Reported.{turn}
@@ -48,6 +50,7 @@ use Rattle.fs_chain.specs.declared.state.ChainState.TheVariants as at
 use Rattle.fs_chain.specs.declared.state.InFlight.{InFlight}
 use Rattle.fs_driven.proofs.Counts.{given_up_counts, pushed_counts, same_count}
 use Rattle.fs_driven.proofs.Handles.{IsOnlyOf, Moves, has_own, idles, keeps, leaves, not_free, others_none, others_same}
+use Rattle.fs_driven.proofs.Spots.{DrivesAt, LeadsAt, desk_after, desk_before, drives_one, push_here}
 use Rattle.fs_chain.proofs.Together.{chains_of}
 use Rattle.fs_driven.proofs.Calls.{fits_out, length_exactly, no_error, refuses, same_all, same_held, stays_put}
 
@@ -110,14 +113,14 @@ push_drives : (page_size : ℕ) (old new : ChainHandle) (q q' : QueueState) (fro
     → PushedSo q stores front out preserved
     → new ≡ record old { state = at.Pushing out } → q' ≡ record q { pushing = true }
     → Pushes old new q front stores
-    → DrivesOne page_size old new q q' does.Push (gives.Began (Ok stores) front)
-unfolding DrivesOne Pushes
+    → DrivesAt page_size old new q q' does.Push (gives.Began (Ok stores) front)
+unfolding Pushes
 push_drives page_size old new q q' front stores out preserved is idle ok so made pushing pushes ws k there u s i os
     pops push all =
-    let own_one = all.outs k old there (ap is_out is) in
+    let own_one = all.outs old there (ap is_out is) in
     let c = own_one.0 in
     let has = has_own s i page_size q ws os k old c pops push all there own_one.1 in
-    let mine = all.mine k old c there own_one.1 in
+    let mine = all.mine old c there own_one.1 in
     let x = ready_reply page_size k q push c old.state out preserved is mine.1 in
     let proceeds : PushedWith s.page_size c c.phase x.0 =
     subst (λ (n : ℕ). PushedWith n c c.phase x.0) (sym all.page) x.1 in
@@ -134,10 +137,11 @@ push_drives page_size old new q q' front stores out preserved is idle ok so made
       page = refl;
       limit = refl;
       places = refl;
-      queue = subst (λ (r : QueueState). IsQueue s i r) (sym pushing) all.queue;
+      queue = subst (λ (r : QueueState). IsQueue s i.number r) (sym pushing) all.queue;
+      apart = λ j other. refl;
       event = same_index q' _ pushing;
       fits = fits_out s.places s.limit q (pops k) (pops k) old new same (ap is_out state_is)
-          (all.fits k old there);
+          (all.fits old there);
       others = others_none page_size k q q' push (Some b) (only_none k push (all.still idle));
       still = λ none. absurd (not_free q'.pushing now_pushing none);
     } in
@@ -147,7 +151,7 @@ push_drives page_size old new q q' front stores out preserved is idle ok so made
       s,
       has.ob ++ own k c ∷ has.oh,
       with_pop pops k (pops k),
-      Some b,
+      with_push i.pushes i.number (Some b),
       refl,
       keeps s s i page_size q q' ws has.ob has.oh k old new c c (pops k) pops push (Some b) has.driven there
           moves (same_count (live_of q) (live_of q') (ap live_of pushing)) has.chains p.0 (
@@ -162,7 +166,7 @@ push_drives page_size old new q q' front stores out preserved is idle ok so made
             × ((behind : List ℕ) × (front ≡ front_of r ++ behind))
             × (new ≡ record old { state = at.Pushing o }))) (sym is) (so.0, so.1, made),
         pushing,
-        refl,
+        push_here i.pushes i.number (Some b),
       ),
     )
 
@@ -186,13 +190,13 @@ end_drives : (page_size : ℕ) (old new : ChainHandle) (q q' : QueueState) (seen
     (out : InFlight)
     → old.state ≡ at.Pushing out → new ≡ freed old → q' ≡ gave q → q.next_used < 2 ^ 16
     → EndsPush old q q' seen notice
-    → DrivesOne page_size old new q q' (does.Pushed seen) (gives.Ended (Ok notice))
-unfolding DrivesOne EndsPush
+    → DrivesAt page_size old new q q' (does.Pushed seen) (gives.Ended (Ok notice))
+unfolding EndsPush
 end_drives page_size old new q q' seen notice out is free gave small ends ws k there u s i os pops push all =
-    let own_one = all.outs k old there (ap is_out is) in
+    let own_one = all.outs old there (ap is_out is) in
     let c = own_one.0 in
     let has = has_own s i page_size q ws os k old c pops push all there own_one.1 in
-    let mine = all.mine k old c there own_one.1 in
+    let mine = all.mine old c there own_one.1 in
     let x = ready_pushing page_size k q push c old.state out is mine.1 in
     let proceeds : PushedWith s.page_size c c.phase x.0 =
     subst (λ (n : ℕ). PushedWith n c c.phase x.0) (sym all.page) x.1 in
@@ -201,12 +205,14 @@ end_drives page_size old new q q' seen notice out is free gave small ends ws k t
     let e = ends s (chains_of has.ob) (chains_of has.oh) c x.0 u.last has.chains queue has.holds proceeds in
     let after : Machine = after_push s (chains_of has.ob) (chains_of has.oh) c (live_of q) in
     let state_is : new.state ≡ at.Free = ap (λ (w : ChainHandle). w.state) free in
-    let was = all.fits k old there in
+    let was = all.fits old there in
     let moves : Moves s after i page_size k q q' no_pop push None new = record {
       page = refl;
       limit = refl;
       places = refl;
       queue = subst (λ (n : ℕ). IsQueue after n q') mine.0 e.1;
+      apart = λ j other.
+          there_other s.queues c.queue j (λ _. several.gave (live_of q)) (λ is. other (sym mine.0 ∙ is));
       event = same_index q' _ gave;
       fits = (
         was.0 ∙ ap places_in (sym (ap (λ (w : ChainHandle). w.regions) free)),
@@ -221,7 +227,7 @@ end_drives page_size old new q q' seen notice out is free gave small ends ws k t
       after,
       has.ob ++ has.oh,
       with_pop pops k no_pop,
-      None,
+      with_push i.pushes i.number None,
       (after, e.0, refl),
       leaves s after i page_size q q' ws has.ob has.oh k old new c no_pop pops push None has.driven there moves
           (pushed_counts q q' gave small) refl (ap is_out state_is),
@@ -230,7 +236,7 @@ end_drives page_size old new q q' seen notice out is free gave small ends ws k t
         x.0,
         under.begun,
         own_one.1,
-        under.is,
+        all.under ∙ under.is,
         under.mine,
         under.reply,
         ap (λ (stores : List Store). PushesChain c x.0 notice u.last stores seen ∷ []) (sym under.used),
@@ -259,31 +265,31 @@ left_by q b c is = ap (λ (x : Bool). if x then gave_up q else q) is
 give_up_drives : (page_size : ℕ) (old new : ChainHandle) (q q' : QueueState)
     → give_up_error old.state q ≡ None → new ≡ freed old
     → q' ≡ (if is_out old.state then gave_up q else q) → GivesUp old new q q'
-    → DrivesOne page_size old new q q' does.GiveUp (gives.GaveUp (Ok tt))
-unfolding DrivesOne GivesUp
+    → DrivesAt page_size old new q q' does.GiveUp (gives.GaveUp (Ok tt))
+unfolding GivesUp
 give_up_drives page_size old new q q' clear free left gives_up ws k there u s i os pops push all =
     by_out (is_out old.state) refl
   where
     state_is : new.state ≡ at.Free
     state_is = ap (λ (w : ChainHandle). w.state) free
 
-    by_out : (b : Bool) → is_out old.state ≡ b → Leads s i page_size q' (with_handle ws k new)
-        (λ es d. Reports (turn i page_size k (desk s ws q os pops push) d old new) does.GiveUp u
+    by_out : (b : Bool) → is_out old.state ≡ b → LeadsAt s i page_size q' (with_handle ws k new)
+        (λ es d. Reports (turn i.number page_size k (desk_before s i ws os pops) d old new q q') does.GiveUp u
         (gives.GaveUp (Ok tt)) es)
     by_out false none =
         let same : q' ≡ q = left ∙ left_by q (is_out old.state) false none in
         let moves : Moves s s i page_size k q q' no_pop push push new =
         stays_put s i page_size k q q' no_pop push new
-        (subst (λ (r : QueueState). IsQueue s i r) (sym same) all.queue)
+        (subst (λ (r : QueueState). IsQueue s i.number r) (sym same) all.queue)
         (same_index q' _ same)
         (λ head len. ap (λ (r : QueueState). stores_after_reply (returning (live_of r)) head len) same)
         (ap (λ (r : QueueState). r.pushing) same) all.still
-        (fits_freed s q (pops k) old new free (all.fits k old there)) in (
+        (fits_freed s q (pops k) old new free (all.fits old there)) in (
           [],
           s,
           os,
           with_pop pops k no_pop,
-          push,
+          with_push i.pushes i.number push,
           refl,
           idles s s i page_size q q' ws os k old new no_pop pops push push all there moves
               (same_count (live_of q) (live_of q') (ap live_of same)) refl none (ap is_out state_is),
@@ -291,15 +297,15 @@ give_up_drives page_size old new q q' clear free left gives_up ws k there u s i 
             clear,
             free,
             left,
-            subst (λ (b : Bool). GiveUpReports (turn i page_size k (desk s ws q os pops push)
-                (desk s (with_handle ws k new) q' os (with_pop pops k no_pop) push) old new) b []) (sym none) refl,
+            subst (λ (b : Bool). GiveUpReports (turn i.number page_size k (desk_before s i ws os pops)
+                (desk_after s i (with_handle ws k new) q' os (with_pop pops k no_pop) push) old new q q') b []) (sym none) refl,
           ),
         )
     by_out true some =
-        let own_one = all.outs k old there some in
+        let own_one = all.outs old there some in
         let c = own_one.0 in
         let has = has_own s i page_size q ws os k old c pops push all there own_one.1 in
-        let mine = all.mine k old c there own_one.1 in
+        let mine = all.mine old c there own_one.1 in
         let queue : IsQueue s c.queue q = subst (λ (n : ℕ). IsQueue s n q) (sym mine.0) all.queue in
         let e = gives_up s (chains_of has.ob) (chains_of has.oh) c has.chains queue has.holds in
         let after : Machine = after_giving_up s (chains_of has.ob) (chains_of has.oh) c (live_of q) in
@@ -309,8 +315,10 @@ give_up_drives page_size old new q q' clear free left gives_up ws k there u s i 
           limit = refl;
           places = refl;
           queue = subst (λ (n : ℕ). IsQueue after n q') mine.0 e.1;
+          apart = λ j other.
+              there_other s.queues c.queue j (λ _. several.gave_up (live_of q)) (λ is. other (sym mine.0 ∙ is));
           event = same_index q' _ now;
-          fits = fits_freed s q (pops k) old new free (all.fits k old there);
+          fits = fits_freed s q (pops k) old new free (all.fits old there);
           others = others_same page_size k q q' push
               (λ head len. ap (λ (r : QueueState). stores_after_reply (returning (live_of r)) head len) now);
           still = λ none. all.still (sym (ap (λ (r : QueueState). r.pushing) now) ∙ none);
@@ -319,7 +327,7 @@ give_up_drives page_size old new q q' clear free left gives_up ws k there u s i 
           after,
           has.ob ++ has.oh,
           with_pop pops k no_pop,
-          push,
+          with_push i.pushes i.number push,
           (after, e.0, refl),
           leaves s after i page_size q q' ws has.ob has.oh k old new c no_pop pops push push has.driven there
               moves (given_up_counts q q' now) refl (ap is_out state_is),
@@ -327,8 +335,8 @@ give_up_drives page_size old new q q' clear free left gives_up ws k there u s i 
             clear,
             free,
             left,
-            subst (λ (b : Bool). GiveUpReports (turn i page_size k (desk s ws q os pops push)
-                (desk after (with_handle ws k new) q' (has.ob ++ has.oh) (with_pop pops k no_pop) push) old new) b
+            subst (λ (b : Bool). GiveUpReports (turn i.number page_size k (desk_before s i ws os pops)
+                (desk_after after i (with_handle ws k new) q' (has.ob ++ has.oh) (with_pop pops k no_pop) push) old new q q') b
                 (GivesUpChain c ∷ [])) (sym some) (c, own_one.1, refl),
           ),
         )
@@ -372,13 +380,13 @@ reply_drives : (page_size : ℕ) (old new : ChainHandle) (q : QueueState) (seria
     → RepliedSo old new len
     → new ≡ record old { state = at.HasReply out (own_reply len) }
     → RepliesOwn old new len
-    → DrivesOne page_size old new q q (does.Reply serial len) (gives.Replied (Ok tt))
-unfolding DrivesOne RepliesOwn
+    → DrivesAt page_size old new q q (does.Reply serial len) (gives.Replied (Ok tt))
+unfolding RepliesOwn
 reply_drives page_size old new q serial len out without clear kept made replies ws k there u s i os pops push all =
-    let own_one = all.outs k old there (without_out old.state without) in
+    let own_one = all.outs old there (without_out old.state without) in
     let c = own_one.0 in
     let has = has_own s i page_size q ws os k old c pops push all there own_one.1 in
-    let mine = all.mine k old c there own_one.1 in
+    let mine = all.mine old c there own_one.1 in
     let request : List ℕ = replied_to c.phase u (asked_len_of old.state) in
     let reply : List ℕ = exactly len u.bytes in
     let r = replies s (chains_of has.ob) (chains_of has.oh) c request reply s.options has.chains
@@ -395,9 +403,10 @@ reply_drives page_size old new q serial len out without clear kept made replies 
       limit = refl;
       places = refl;
       queue = all.queue;
+      apart = λ j other. refl;
       event = refl;
       fits = fits_out s.places s.limit q (pops k) (pops k) old new same (ap is_out state_is)
-          (all.fits k old there);
+          (all.fits old there);
       others = others_same page_size k q q push (λ head len. refl);
       still = all.still;
     } in (
@@ -405,7 +414,7 @@ reply_drives page_size old new q serial len out without clear kept made replies 
       after,
       has.ob ++ own k c' ∷ has.oh,
       with_pop pops k (pops k),
-      push,
+      with_push i.pushes i.number push,
       (after, r.0, refl),
       keeps s after i page_size q q ws has.ob has.oh k old new c c' (pops k) pops push push has.driven there
           moves (λ n counts. counts) refl r.1
@@ -422,17 +431,17 @@ reply_at : (old new : ChainHandle) (q : QueueState) (serial len : ℕ) (st : sta
     → RepliesOwn old new len
     → (page_size : ℕ) → DrivesOne page_size old new q q (does.Reply serial len) (gives.Replied (Ok tt))
 reply_at old new q serial len (at.Taken out) is clear kept made step page_size =
-    reply_drives page_size old new q serial len out
+    drives_one _ _ (reply_drives page_size old new q serial len out
     (subst (λ (s : state.ChainState). IsWithoutReply s) (sym is) tt)
-    (ap (λ (s : state.ChainState). own_error s old.serial serial len) is ∙ clear) kept made step
+    (ap (λ (s : state.ChainState). own_error s old.serial serial len) is ∙ clear) kept made step)
 reply_at old new q serial len (at.Waits out w) is clear kept made step page_size =
-    reply_drives page_size old new q serial len out
+    drives_one _ _ (reply_drives page_size old new q serial len out
     (subst (λ (s : state.ChainState). IsWithoutReply s) (sym is) tt)
-    (ap (λ (s : state.ChainState). own_error s old.serial serial len) is ∙ clear) kept made step
+    (ap (λ (s : state.ChainState). own_error s old.serial serial len) is ∙ clear) kept made step)
 reply_at old new q serial len (at.Lists out l) is clear kept made step page_size =
-    reply_drives page_size old new q serial len out
+    drives_one _ _ (reply_drives page_size old new q serial len out
     (subst (λ (s : state.ChainState). IsWithoutReply s) (sym is) tt)
-    (ap (λ (s : state.ChainState). own_error s old.serial serial len) is ∙ clear) kept made step
+    (ap (λ (s : state.ChainState). own_error s old.serial serial len) is ∙ clear) kept made step)
 reply_at old new q serial len _ is clear kept made step page_size = absurd (no_error WrongOrder clear)
 
 pub reply_result : (old new : ChainHandle) (q : QueueState) (serial len : ℕ)
@@ -448,7 +457,7 @@ reply_result old new q serial len (Ok done) err clear same made step page_size =
     reply_at old new q serial len old.state refl clear made made step page_size
 reply_result old new q serial len (Err e) err clear same made step page_size =
     refuses page_size old new q (does.Reply serial len) (gives.Replied (Err e)) (same_held old new same)
-    (λ i k d d' u is now. (refl, (same_all old new same, now ∙ sym is), err))
+    (λ i k d d' u. (refl, (same_all old new same, refl), err))
 
 pub give_up_result : (old new : ChainHandle) (q q' : QueueState) (result : Result (Unit {0}) ChainError)
     → IfErr result (λ e. give_up_error old.state q ≡ Some e)
@@ -459,16 +468,12 @@ pub give_up_result : (old new : ChainHandle) (q q' : QueueState) (result : Resul
     → OnOk result (GivesUp old new q q')
     → (page_size : ℕ) → DrivesOne page_size old new q q' does.GiveUp (gives.GaveUp result)
 give_up_result old new q q' (Ok done) err clear same free left step page_size =
-    give_up_drives page_size old new q q' clear free left step
+    drives_one _ _ (give_up_drives page_size old new q q' clear free left step)
 give_up_result old new q q' (Err e) err clear same free left step page_size =
     subst (λ (r : QueueState). DrivesOne page_size old new q r does.GiveUp (gives.GaveUp (Err e)))
     (sym same.1)
     (refuses page_size old new q does.GiveUp (gives.GaveUp (Err e)) (same_held old new same.0)
-    (λ i k d d' u is now. (
-      refl,
-      (same_all old new same.0, now ∙ sym is),
-      subst (λ (r : QueueState). give_up_error old.state r ≡ Some e) (sym is) err,
-    )))
+    (λ i k d d' u. (refl, (same_all old new same.0, refl), err)))
 
 push_at : (old new : ChainHandle) (q q' : QueueState) (front front' : List ℕ) (s : PushStores)
     (st : state.ChainState) → old.state ≡ st → HasFree st q → length front' ≡ length front
@@ -480,9 +485,9 @@ push_at : (old new : ChainHandle) (q q' : QueueState) (front front' : List ℕ) 
     → Pushes old new q front' s
     → (page_size : ℕ) → DrivesOne page_size old new q q' does.Push (gives.Began (Ok s) front')
 push_at old new q q' front front' s (at.HasReply out preserved) is free len ok made pushing by put step page_size =
-    push_drives page_size old new q q' front' s out preserved is free
+    drives_one _ _ (push_drives page_size old new q q' front' s out preserved is free
     (subst (λ (n : ℕ). return_error old.state q n ≡ None) (sym len) ok)
-    (by, (drop (front_len preserved) front, put)) made pushing step
+    (by, (drop (front_len preserved) front, put)) made pushing step)
 push_at old new q q' front front' s _ is free len ok made pushing by put step page_size = absurd free
 
 pub push_result : (old new : ChainHandle) (q q' : QueueState) (front front' : List ℕ)
@@ -504,11 +509,10 @@ push_result old new q q' front front' (Err e) len err ok same made pushing by pu
     subst (λ (r : QueueState). DrivesOne page_size old new q r does.Push (gives.Began (Err e) front'))
     (sym same.2)
     (refuses page_size old new q does.Push (gives.Began (Err e) front') (same_held old new same.0)
-    (λ i k d d' u is now. (
+    (λ i k d d' u. (
       refl,
-      (same_all old new same.0, now ∙ sym is),
-      subst (λ (r : QueueState). push_error (has_ring old.state old.regions) old.state r (length front') ≡ Some e)
-          (sym is) (subst (λ (n : ℕ). push_error (has_ring old.state old.regions) old.state q n ≡ Some e) (sym len) err),
+      (same_all old new same.0, refl),
+      subst (λ (n : ℕ). push_error (has_ring old.state old.regions) old.state q n ≡ Some e) (sym len) err,
     )))
 
 -- a push that is ended
@@ -525,7 +529,7 @@ end_at : (old new : ChainHandle) (q q' : QueueState) (seen : List ℕ) (notice :
     → EndsPush old q q' seen notice
     → (page_size : ℕ) → DrivesOne page_size old new q q' (does.Pushed seen) (gives.Ended (Ok notice))
 end_at old new q q' seen notice (at.Pushing out) is begun free gives_it small step page_size =
-    end_drives page_size old new q q' seen notice out is free gives_it small step
+    drives_one _ _ (end_drives page_size old new q q' seen notice out is free gives_it small step)
 end_at old new q q' seen notice _ is begun free gives_it small step page_size = absurd begun
 
 pub pushed_result : (old new : ChainHandle) (q q' : QueueState) (seen : List ℕ)
@@ -544,8 +548,4 @@ pushed_result old new q q' seen (Err e) err ok same free gives_it small step pag
     subst (λ (r : QueueState). DrivesOne page_size old new q r (does.Pushed seen) (gives.Ended (Err e)))
     (sym same.1)
     (refuses page_size old new q (does.Pushed seen) (gives.Ended (Err e)) (same_held old new same.0)
-    (λ i k d d' u is now. (
-      refl,
-      (same_all old new same.0, now ∙ sym is),
-      subst (λ (r : QueueState). end_error old.state r ≡ Some e) (sym is) err,
-    )))
+    (λ i k d d' u. (refl, (same_all old new same.0, refl), err)))

@@ -22,7 +22,7 @@ use Rattle.fs_chain.specs.declared.queue.QueueState.{QueueState}
 use Rattle.fs_chain.specs.declared.state.ChainState as state
 use Rattle.fs_chain.specs.declared.state.ChainState.TheVariants as at
 use Rattle.fs_driven.specs.Adding.{BringsAll, BringsNothing, BringsSo, CameTo, EndsSo, EndsUnless, IsGathering}
-use Rattle.fs_driven.specs.Desks.{Begun, Driven, Leads, desk}
+use Rattle.fs_driven.specs.Desks.{Begun}
 use Rattle.fs_driven.specs.Entries.{IsOfLast, all_brought, answers_of, ending_of, errno_after, refused_by}
 use Rattle.fs_driven.specs.Preserved.{IsSameHeld, KeepsMemory}
 use Rattle.fs_driven.specs.Reported.{DrivesOne, GatherReports, RefusesEntries, turn}
@@ -31,6 +31,7 @@ use Rattle.fs_driven.specs.declared.commands.Returned.TheVariants as gives
 use Rattle.fs_driven.specs.declared.entries.ListedEntry.{ListedEntry}
 use Rattle.fs_chain.proofs.Together.{chains_of}
 use Rattle.fs_driven.proofs.Answering.{answered_all}
+use Rattle.fs_driven.proofs.Spots.{DrivenAt, LeadsAt, Spot, desk_before, drives_one}
 use Rattle.fs_driven.proofs.Calls.{no_error, refuses, same_held}
 use Rattle.fs_driven.proofs.ListingCalls.{came_to_end}
 use Rattle.fs_driven.proofs.Handles.{has_own, not_free}
@@ -113,20 +114,20 @@ gathered_drives : (page_size : ℕ) (old mid new : ChainHandle) (q : QueueState)
     → BringsAll old mid serial before list entries names n reported
     → EndsSo (errno_after reported failure) mid new serial (Ok len)
     → (ws : List ChainHandle) (k : ℕ) → slice_get ws k ≡ Some old
-    → (s : Machine) (i : ℕ) (os : List Owned) (pops : ℕ → Pop) (push : Option Begun)
-    → Driven s i page_size q ws os pops push
-    → Leads s i page_size q (with_handle ws k new)
-    (λ es d. GatherReports (turn i page_size k (desk s ws q os pops push) d old new) serial entries names failure n reported
+    → (s : Machine) (i : Spot) (os : List Owned) (pops : ℕ → Pop) (push : Option Begun)
+    → DrivenAt s i page_size k q ws os pops push
+    → LeadsAt s i page_size q (with_handle ws k new)
+    (λ es d. GatherReports (turn i.number page_size k (desk_before s i ws os pops) d old new q q) serial entries names failure n reported
     (Ok len) list es)
 gathered_drives page_size old mid new q serial before list entries names failure n len reported all_in ends ws k there s i os
     pops push all =
     let mid_was = ended_listing (errno_after reported failure) mid new serial len ends in
     let was = listing_is old.state
     (was_before old mid serial before list entries names n reported all_in.moved (ap is_listing mid_was.2)) in
-    let own_one = all.outs k old there (ap is_out was.2) in
+    let own_one = all.outs old there (ap is_out was.2) in
     let c = own_one.0 in
     let has = has_own s i page_size q ws os k old c pops push all there own_one.1 in
-    let mine = all.mine k old c there own_one.1 in
+    let mine = all.mine old c there own_one.1 in
     let first = begun_listing s.page_size page_size k q push c old was.0 was.1 before was.2 mine.1 has.holds in
     let left : List Brought = drop n (all_brought entries names) in
     let came = all_in.step s.page_size c [] first tt in
@@ -139,7 +140,7 @@ gathered_drives page_size old mid new q serial before list entries names failure
     let preserved = preserved_to_end (errno_after reported failure) mid new serial (Ok len) ends in
     answered_all s i page_size k q ws has.ob has.oh pops push old new c h.request h.options calls after
     (answers_of c h.request h.options [] calls)
-    (λ es d. GatherReports (turn i page_size k (desk s ws q os pops push) d old new) serial entries names failure n reported
+    (λ es d. GatherReports (turn i.number page_size k (desk_before s i ws os pops) d old new q q) serial entries names failure n reported
     (Ok len) list es)
     has.driven there mine.0 (preserved.0 ∙ all_in.preserved.0, preserved.1 ∙ all_in.preserved.1) r.listed.holds
     (no_push new.state h.out r.listed.preserved r.listed.state) r.listed.none_pending
@@ -221,7 +222,7 @@ refused_drives : (old mid new : ChainHandle) (q : QueueState) (serial : ℕ) (be
 refused_drives old mid new q serial before list entries names failure n reported e nothing ends page_size =
     let r = nothing_reported old mid serial before list entries.now names.now failure n reported new e nothing ends in
     refuses page_size old new q (does.Gather serial entries names failure) (gives.Gathered n reported (Err e) list) r.1
-    (λ i k d d' u is now. (refl, r.0, r.1, now ∙ sym is, r.2))
+    (λ i k d d' u. (refl, r.0, r.1, refl, r.2))
 
 -- ---- by what the calls ensure
 
@@ -251,13 +252,10 @@ pub gathered : (old mid new : ChainHandle) (q : QueueState) (serial : ℕ) (befo
     → EndsUnless (refused_by n reported) (errno_after reported failure) mid new serial ended
     → (page_size : ℕ)
     → DrivesOne page_size old new q q (does.Gather serial entries names failure) (gives.Gathered n reported ended list)
-unfolding DrivesOne
-gathered old mid new q serial before list entries names failure n reported (Ok len) all_in ends page_size ws k there u s i os pops
-    push all =
+gathered old mid new q serial before list entries names failure n reported (Ok len) all_in ends page_size =
+    drives_one _ _ (λ ws k there u s i os pops push all.
     gathered_drives page_size old mid new q serial before list entries.now names.now failure n len reported all_in
-    (ends_unless (refused_by n reported) (errno_after reported failure) mid new serial len ends) ws k there s i os pops push all
-gathered old mid new q serial before list entries names failure n reported (Err e) all_in ends page_size ws k there u s i os pops
-    push all =
+    (ends_unless (refused_by n reported) (errno_after reported failure) mid new serial len ends) ws k there s i os pops push all)
+gathered old mid new q serial before list entries names failure n reported (Err e) all_in ends page_size =
     refused_drives old mid new q serial before list entries names failure n reported e
-    (never_refused old mid serial before list entries.now names.now failure n reported new e all_in ends) ends page_size ws k
-    there u s i os pops push all
+    (never_refused old mid serial before list entries.now names.now failure n reported new e all_in ends) ends page_size

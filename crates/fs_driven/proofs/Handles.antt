@@ -1,7 +1,7 @@
 -- A driver of several handles: a call of one of them leaves the others theirs.
 use Rattle.std.proofs.Common.{inl, inr, ◌≡◌, ◌⊎◌, ◌≤◌, ◌^◌, ℕ, Bool, true, false, List, [], ◌∷◌, ◌++◌, Option}
 use Rattle.std.proofs.Common.{Some, None, slice_get}
-use Rattle.std.proofs.Common.{refl, subst, sym, ap, ◌∙◌, eqb-true, ◌==◌, append_assoc}
+use Rattle.std.proofs.Common.{refl, subst, suc, sym, ap, ◌∙◌, eqb-true, ◌==◌, append-nil, append_assoc}
 use Rattle.std.specs.Prelude.{if◌then◌else◌, length}
 use Rattle.std.specs.List.{AllByRecursion}
 use Rattle.vm_memory.specs.Memory.{Memory}
@@ -11,96 +11,25 @@ use Rattle.plain_machine.specs.Step.{Exchange}
 use Rattle.fs_chain.specs.Queues.{SameEventIndex}
 use Rattle.fs_queue.specs.Returning.{stores_after_reply}
 use Rattle.live_machine.specs.Several.{returning}
-use Rattle.live_machine.proofs.Alone.{all_both}
 use Rattle.live_machine.proofs.Moved.{joined}
 use Rattle.live_machine.proofs.Queues.{apart_of, same_some, there_other, there_same}
 use Rattle.server_phases.specs.declared.session.Session.{Session}
 use Rattle.fs_chain.specs.Holds.{HoldsChain, IsHeldIn, IsQueue, Machine, Pop, any_files, live_of}
 use Rattle.fs_chain.specs.Orders.{is_out}
-use Rattle.fs_driven.specs.Desks.{MayPop, Begun, Desk, Driven, FitsRun, In, IsLost, IsReady, IsUnderWay, desk, lost, own}
-use Rattle.fs_driven.specs.Desks.{HasInFlight, with_pop}
+use Rattle.fs_driven.specs.Desks.{Begun, Desk, Driven, FitsRun, In, IsItsOwn, IsReady, IsUnderWay, MayPop, desk, lost, own}
+use Rattle.fs_driven.specs.Desks.{HasInFlight, number_of, with_pop, with_push, with_queue}
 use Rattle.fs_driven.specs.Reported.{Called, Drives, ReportsAll, Unseen, seen_of}
-use Rattle.fs_chain.specs.Together.{HasNone, IsHeldBy, IsNot, Owned, with_handle}
+use Rattle.fs_chain.specs.Together.{HasNone, IsHeldBy, IsNot, Owned, Together, with_handle}
 use Rattle.fs_chain.specs.declared.chain_handle.ChainHandle.{ChainHandle}
 use Rattle.fs_chain.specs.declared.queue.QueueState.{QueueState}
 use Rattle.fs_chain.specs.declared.state.ChainState as state
 use Rattle.fs_chain.specs.declared.state.ChainState.TheVariants as at
 use Rattle.fs_chain.proofs.Together.{all_still, amid, chains_of, finds_own, joins_others, keeps_others}
 use Rattle.fs_chain.proofs.Together.{leaves_others}
-use Rattle.fs_driven.proofs.Counts.{CountsLess, CountsMore, CountsSame, with_last, with_one, with_other}
-
--- ---- chains among others
-
-by_number : (j k : ℕ) → (j ≡ k) ⊎ (j ≡ k → ⊥)
-by_number j k = by_test j k (j == k) refl
-  where
-    by_test : (j k : ℕ) (b : Bool) → (j == k) ≡ b → (j ≡ k) ⊎ (j ≡ k → ⊥)
-    by_test j k true is = inl (eqb-true j k is)
-    by_test j k false is = inr (apart_of j k is)
-
-among_on : (o x y : Owned) (os : List Owned) → (y ≡ x) ⊎ In y os → (y ≡ x) ⊎ In y (o ∷ os)
-among_on o x y os (inl e) = inl e
-among_on o x y os (inr m) = inr (inr m)
-
-pub among : (ob oh : List Owned) (x y : Owned) → In y (ob ++ x ∷ oh) → (y ≡ x) ⊎ In y (ob ++ oh)
-among [] oh x y is = is
-among (o ∷ ob) oh x y (inl e) = inr (inl e)
-among (o ∷ ob) oh x y (inr m) = among_on o x y (ob ++ oh) (among ob oh x y m)
-
-pub put : (ob oh : List Owned) (x y : Owned) → In y (ob ++ oh) → In y (ob ++ x ∷ oh)
-put [] oh x y is = inr is
-put (o ∷ ob) oh x y (inl e) = inl e
-put (o ∷ ob) oh x y (inr m) = inr (put ob oh x y m)
-
-pub here : (ob oh : List Owned) (x : Owned) → In x (ob ++ x ∷ oh)
-here [] oh x = inl refl
-here (o ∷ ob) oh x = inr (here ob oh x)
-
-abbrev Split : List Owned → Owned → Type 0
-Split os x = (ob : List Owned) × (oh : List Owned) × (os ≡ ob ++ x ∷ oh)
-
-pub split : (os : List Owned) (x : Owned) → In x os → Split os x
-split [] x is = absurd is
-split (o ∷ os) x (inl e) = ([], os, ap (λ (y : Owned). y ∷ os) (sym e))
-split (o ∷ os) x (inr m) = let r = split os x m in (o ∷ r.0, r.1, ap (λ (l : List Owned). o ∷ l) r.2)
-
-not_in : (k : ℕ) (c : InFlightChain) (os : List Owned) → HasNone k os → In (own k c) os → ⊥
-not_in k c [] none is = absurd is
-not_in k c (o ∷ os) none (inl e) = subst (λ (x : Owned). IsNot k x.handle) (sym e) none.0 refl
-not_in k c (o ∷ os) none (inr m) = not_in k c os none.1 m
-
-same_number : (j k : ℕ) (d c : InFlightChain) → own j d ≡ own k c → j ≡ k
-same_number j k d c e = same_some j k (ap (λ (o : Owned). o.handle) e)
-
-same_chain : (j k : ℕ) (d c : InFlightChain) → own j d ≡ own k c → d ≡ c
-same_chain j k d c e = ap (λ (o : Owned). o.chain) e
-
--- a handle's chain isn't one without a handle
-abbrev IsNobodys : Option ℕ → Type 0
-IsNobodys None = Unit {0}
-IsNobodys (Some k) = ⊥
-
-pub not_lost : (k : ℕ) (d c : InFlightChain) → lost d ≡ own k c → ⊥
-not_lost k d c e = subst (λ (o : Owned). IsNobodys o.handle) e tt
-
--- another handle's chain isn't handle k's
-others_apart : (j k : ℕ) (d c : InFlightChain) (ob oh : List Owned) → HasNone k ob × HasNone k oh →
-    In (own j d) (ob ++ oh) → j ≡ k → ⊥
-others_apart j k d c ob oh none m same =
-    not_in k d (ob ++ oh) (all_both (λ (o : Owned). IsNot k o.handle) ob oh none.0 none.1)
-    (subst (λ (n : ℕ). In (own n d) (ob ++ oh)) same m)
-
--- the handle in place k
-the_new : (ws : List ChainHandle) (k j : ℕ) (w new v : ChainHandle) → k ≡ j → slice_get ws k ≡ Some w →
-    slice_get (with_handle ws k new) j ≡ Some v → new ≡ v
-the_new ws k j w new v same there now =
-    same_some new v (sym (there_same ws k j (λ _. new) w same
-    (ap (λ (n : ℕ). slice_get ws n) (sym same) ∙ there)) ∙ now)
-
-another : (ws : List ChainHandle) (k j : ℕ) (new v : ChainHandle) → (k ≡ j → ⊥) →
-    slice_get (with_handle ws k new) j ≡ Some v →
-    slice_get ws j ≡ Some v
-another ws k j new v apart now = sym (there_other ws k j (λ _. new) apart) ∙ now
+use Rattle.fs_driven.proofs.Among.{among, among_on, another, by_number, here, not_lost, others_apart, put, same_chain}
+use Rattle.fs_driven.proofs.Among.{same_number, split, the_new}
+use Rattle.fs_driven.proofs.Counts.{CountsLess, CountsMore, CountsSame, number_one, number_other, number_same}
+use Rattle.fs_driven.proofs.Spots.{DrivenAt, Spot, push_apart, push_here}
 
 -- ---- a call
 
@@ -155,12 +84,13 @@ others_none page_size k q q' push push' only j c st apart is = by_state st is
     by_state _ is = tt
 
 -- what each event here keeps of the run, and each call of its handle
-pub record Moves (s after : Machine) (i page_size k : ℕ) (q q' : QueueState) (p : Pop)
+pub record Moves (s after : Machine) (i : Spot) (page_size k : ℕ) (q q' : QueueState) (p : Pop)
     (push push' : Option Begun) (new : ChainHandle) : Type 0 where
   pub page : after.page_size ≡ s.page_size
   pub limit : after.limit ≡ s.limit
   pub places : after.places ≡ s.places
-  pub queue : IsQueue after i q'
+  pub queue : IsQueue after i.number q'
+  pub apart : (j : ℕ) → (i.number ≡ j → ⊥) → slice_get after.queues j ≡ slice_get s.queues j
   pub event : SameEventIndex q' q
   pub fits : FitsRun s.places s.limit q p new
   pub others : OthersReady page_size k q q' push push'
@@ -176,105 +106,227 @@ pub fits_queue : (places : Memory) (limit : ℕ) (q q' : QueueState) (p : Pop) (
     → FitsRun places limit q p w → FitsRun places limit q' p w
 fits_queue places limit q q' p w same fits = (fits.0, fits.1, may_pop limit q q' p w w.state same fits.2)
 
-fits_after : (s after : Machine) (i page_size k : ℕ) (q q' : QueueState) (p : Pop) (push push' : Option Begun)
-    (new : ChainHandle) (r : Pop) (v : ChainHandle) → Moves s after i page_size k q q' p push push' new
-    →
-    FitsRun s.places s.limit q r v → FitsRun after.places after.limit q' r v
-fits_after s after i page_size k q q' p push push' new r v moves fits =
-    let one : FitsRun after.places s.limit q r v =
-    subst (λ (m : Memory). FitsRun m s.limit q r v) (sym moves.places) fits in
-    let two : FitsRun after.places after.limit q r v =
-    subst (λ (n : ℕ). FitsRun after.places n q r v) (sym moves.limit) one in
-    fits_queue after.places after.limit q q' r v moves.event two
+-- so it may in a run with the same mappings
+fits_run : (s after : Machine) (q : QueueState) (p : Pop) (w : ChainHandle) → after.limit ≡ s.limit →
+    after.places ≡ s.places → FitsRun s.places s.limit q p w → FitsRun after.places after.limit q p w
+fits_run s after q p w limit places fits =
+    subst (λ (n : ℕ). FitsRun after.places n q p w) (sym limit)
+    (subst (λ (m : Memory). FitsRun m s.limit q p w) (sym places) fits)
 
-all_fit : (s after : Machine) (i page_size : ℕ) (q q' : QueueState) (ws : List ChainHandle) (k : ℕ)
-    (w new : ChainHandle) (p : Pop) (pops : ℕ → Pop) (push push' : Option Begun)
-    → Moves s after i page_size k q q' p push push' new → slice_get ws k ≡ Some w
-    → ((j : ℕ) (v : ChainHandle) → slice_get ws j ≡ Some v →
-    FitsRun s.places s.limit q (pops j) v)
-    → (j : ℕ) (v : ChainHandle) → slice_get (with_handle ws k new) j ≡ Some v →
-    FitsRun after.places after.limit q' (with_pop pops k p j) v
-all_fit s after i page_size q q' ws k w new p pops push push' moves there fits j v now =
-    by_test (k == j) refl
+-- what holds of queue i as it is now, and of each other one, holds of each
+pub each_queue : (qs : List QueueState) (i : ℕ) (q q' : QueueState) (P : ℕ → QueueState → Type 0)
+    → slice_get qs i ≡ Some q → P i q'
+    → ((j : ℕ) (r : QueueState) → (i ≡ j → ⊥) → slice_get qs j ≡ Some r → P j r)
+    → (j : ℕ) (r : QueueState) → slice_get (with_queue qs i q') j ≡ Some r → P j r
+each_queue qs i q q' P there here others j r now = by_case (by_number i j)
   where
-    by_test : (b : Bool) → (k == j) ≡ b →
-        FitsRun after.places after.limit q' (with_pop pops k p j) v
-    by_test true is =
-        let pop : p ≡ with_pop pops k p j = sym (ap (λ (b : Bool). if b then p else pops j) is) in
-        subst (λ (x : Pop). FitsRun after.places after.limit q' x v) pop
-        (fits_after s after i page_size k q q' p push push' new p v moves
-        (subst (λ (x : ChainHandle). FitsRun s.places s.limit q p x)
-        (the_new ws k j w new v (eqb-true k j is) there now) moves.fits))
-    by_test false is =
-        let pop : pops j ≡ with_pop pops k p j = sym (ap (λ (b : Bool). if b then p else pops j) is) in
-        subst (λ (x : Pop). FitsRun after.places after.limit q' x v) pop
-        (fits_after s after i page_size k q q' p push push' new (pops j) v moves
-        (fits j v (another ws k j new v (apart_of k j is) now)))
+    by_case : (i ≡ j) ⊎ (i ≡ j → ⊥) → P j r
+    by_case (inl same) =
+        subst (λ (n : ℕ). P n r) same
+        (subst (λ (x : QueueState). P i x) (the_new qs i j q q' r same there now) here)
+    by_case (inr apart) = others j r apart (another qs i j q' r apart now)
+
+-- a queue that was there is there
+still_there : (qs : List QueueState) (i j : ℕ) (q q' r : QueueState) → slice_get qs i ≡ Some q →
+    slice_get qs j ≡ Some r →
+    (x : QueueState) × (slice_get (with_queue qs i q') j ≡ Some x)
+still_there qs i j q q' r there is = by_case (by_number i j)
+  where
+    by_case : (i ≡ j) ⊎ (i ≡ j → ⊥) → (x : QueueState) × (slice_get (with_queue qs i q') j ≡ Some x)
+    by_case (inl same) =
+        (q', there_same qs i j (λ _. q') q same (ap (λ (n : ℕ). slice_get qs n) (sym same) ∙ there))
+    by_case (inr apart) = (r, there_other qs i j (λ _. q') apart ∙ is)
 
 abbrev pub MineIn :
-    (i page_size k : ℕ) → QueueState → Option Begun → InFlightChain → ChainHandle → Type 0
-MineIn i page_size k q push c w = (c.queue ≡ i) × IsReady page_size k q push c w.state
+    Spot → (page_size k : ℕ) → QueueState → Option Begun → InFlightChain → ChainHandle → Type 0
+MineIn i page_size k q push c w = (c.queue ≡ i.number) × IsReady page_size k q push c w.state
+
+-- the chains after a call of handle k, which may have one of queue i then
+record Turns (i k : ℕ) (os os' : List Owned) (Mine : InFlightChain → Type 0) : Type 0 where
+  pub from : (j : ℕ) (d : InFlightChain) → In (own j d) os' →
+      ((k ≡ j) × Mine d) ⊎ ((k ≡ j → ⊥) × In (own j d) os)
+  pub into : (j : ℕ) (d : InFlightChain) → (k ≡ j → ⊥) → In (own j d) os → In (own j d) os'
+  pub lost : (d : InFlightChain) → In (lost d) os' → In (lost d) os
+  pub numbers : (j : ℕ) → (i ≡ j → ⊥) → number_of j os' ≡ number_of j os
+
+turns : (s after : Machine) (i : Spot) (page_size : ℕ) (q q' : QueueState) (ws : List ChainHandle)
+    (os os' : List Owned) (k : ℕ) (w new : ChainHandle) (p : Pop) (pops : ℕ → Pop) (push push' : Option Begun)
+    → DrivenAt s i page_size k q ws os pops push → slice_get ws k ≡ Some w
+    → Moves s after i page_size k q q' p push push' new
+    → Together after (with_handle ws k new) os'
+    → Turns i.number k os os' (λ d. MineIn i page_size k q' push' d new)
+    → (is_out new.state ≡ true → (c : InFlightChain) × In (own k c) os')
+    → HasInFlight (live_of q') (number_of i.number os')
+    → Driven after i.on page_size (with_queue i.queues i.number q') (with_handle ws k new) os' (with_pop pops k p)
+    (with_push i.pushes i.number push')
+turns s after i page_size q q' ws os os' k w new p pops push push' all there moves together change out counts =
+    let was = all.whole in
+    record {
+      all = together;
+      queues = each_queue i.queues i.number q q' (λ j r. IsQueue after j r) all.there moves.queue
+          (λ j r apart is. moves.apart j apart ∙ was.queues j r is);
+      page = moves.page ∙ was.page;
+      small = subst (λ (n : ℕ). n ≤ 2 ^ 31) (sym moves.limit) was.small;
+      mine = λ j v d now m. its_own j v d now (change.from j d m);
+      outs = λ j v now is_out. its_out j v now is_out (by_number k j);
+      fits = λ j v n r now on is. its_fit j v n now on r is;
+      left = λ d m.
+          let l = was.left d (change.lost d m) in
+          let r = still_there i.queues i.number d.queue q q' l.0 all.there l.1 in (r.0, r.1, l.2, l.3);
+      still = each_queue i.queues i.number q q'
+          (λ j r. r.pushing ≡ false → with_push i.pushes i.number push' j ≡ None) all.there
+          (λ none. push_here i.pushes i.number push' ∙ moves.still none)
+          (λ j r apart is none. push_apart i.pushes i.number j push' apart ∙ was.still j r is none);
+      counts = each_queue i.queues i.number q q' (λ j r. HasInFlight (live_of r) (number_of j os')) all.there counts
+          (λ j r apart is. subst (λ (n : ℕ). HasInFlight (live_of r) n) (sym (change.numbers j apart))
+          (was.counts j r is));
+    }
+  where
+    ItsOwn : (j : ℕ) → InFlightChain → state.ChainState → Type 0
+    ItsOwn j d st =
+        IsItsOwn i.on page_size (with_queue i.queues i.number q') (with_push i.pushes i.number push') j d st
+
+    here : (d : InFlightChain) (n : ℕ) → i.number ≡ n → IsReady page_size k q' push' d new.state →
+        (slice_get i.on k ≡ Some n) × (r : QueueState)
+        × (slice_get (with_queue i.queues i.number q') n ≡ Some r)
+        × IsReady page_size k r (with_push i.pushes i.number push' n) d new.state
+    here d n same ready = (
+      all.number ∙ ap (λ (m : ℕ). Some m) same,
+      q',
+      there_same i.queues i.number n (λ _. q') q same
+          (ap (λ (m : ℕ). slice_get i.queues m) (sym same) ∙ all.there),
+      subst (λ (m : ℕ). IsReady page_size k q' (with_push i.pushes i.number push' m) d new.state) same
+          (subst (λ (b : Option Begun). IsReady page_size k q' b d new.state)
+          (sym (push_here i.pushes i.number push')) ready),
+    )
+
+    theirs : (j : ℕ) (v : ChainHandle) (d : InFlightChain) → (k ≡ j → ⊥) →
+        IsItsOwn i.on page_size i.queues i.pushes j d v.state →
+        (i.number ≡ d.queue) ⊎ (i.number ≡ d.queue → ⊥) → ItsOwn j d v.state
+    theirs j v d apart its (inl same) =
+        let r_is : its.1 ≡ q =
+        same_some its.1 q (sym its.2 ∙ ap (λ (m : ℕ). slice_get i.queues m) (sym same) ∙ all.there) in
+        let push_is : i.pushes d.queue ≡ push = ap i.pushes (sym same) ∙ all.under in
+        let ready : IsReady page_size j q push d v.state =
+        subst (λ (b : Option Begun). IsReady page_size j q b d v.state) push_is
+        (subst (λ (r : QueueState). IsReady page_size j r (i.pushes d.queue) d v.state) r_is its.3) in (
+          its.0,
+          q',
+          there_same i.queues i.number d.queue (λ _. q') q same
+              (ap (λ (m : ℕ). slice_get i.queues m) (sym same) ∙ all.there),
+          subst (λ (m : ℕ). IsReady page_size j q' (with_push i.pushes i.number push' m) d v.state) same
+              (subst (λ (b : Option Begun). IsReady page_size j q' b d v.state)
+              (sym (push_here i.pushes i.number push')) (moves.others j d v.state apart ready)),
+        )
+    theirs j v d apart its (inr other) = (
+      its.0,
+      its.1,
+      there_other i.queues i.number d.queue (λ _. q') other ∙ its.2,
+      subst (λ (b : Option Begun). IsReady page_size j its.1 b d v.state)
+          (sym (push_apart i.pushes i.number d.queue push' other)) its.3,
+    )
+
+    its_own : (j : ℕ) (v : ChainHandle) (d : InFlightChain) → slice_get (with_handle ws k new) j ≡ Some v
+        → ((k ≡ j) × MineIn i page_size k q' push' d new) ⊎ ((k ≡ j → ⊥) × In (own j d) os)
+        → ItsOwn j d v.state
+    its_own j v d now (inl mine) =
+        subst (λ (n : ℕ). ItsOwn n d v.state) mine.0
+        (subst (λ (x : ChainHandle). ItsOwn k d x.state) (the_new ws k j w new v mine.0 there now)
+        (here d d.queue (sym mine.1.0) mine.1.1))
+    its_own j v d now (inr other) =
+        theirs j v d other.0 (all.whole.mine j v d (another ws k j new v other.0 now) other.1)
+        (by_number i.number d.queue)
+
+    its_out : (j : ℕ) (v : ChainHandle) → slice_get (with_handle ws k new) j ≡ Some v → is_out v.state ≡ true
+        → (k ≡ j) ⊎ (k ≡ j → ⊥) → (e : InFlightChain) × In (own j e) os'
+    its_out j v now is (inl same) =
+        subst (λ (n : ℕ). (e : InFlightChain) × In (own n e) os') same
+        (out (ap (λ (x : ChainHandle). is_out x.state) (the_new ws k j w new v same there now) ∙ is))
+    its_out j v now is (inr apart) =
+        let was = all.whole.outs j v (another ws k j new v apart now) is in
+        (was.0, change.into j was.0 apart was.1)
+
+    -- handle j may carry on at queue n
+    Fit : (j : ℕ) (v : ChainHandle) → QueueState → Type 0
+    Fit j v r = FitsRun after.places after.limit r (with_pop pops k p j) v
+
+    its_fit : (j : ℕ) (v : ChainHandle) (n : ℕ) → slice_get (with_handle ws k new) j ≡ Some v →
+        slice_get i.on j ≡ Some n → (r : QueueState) →
+        slice_get (with_queue i.queues i.number q') n ≡ Some r → Fit j v r
+    its_fit j v n now on r is = by_test (k == j) refl
+      where
+        by_test : (b : Bool) → (k == j) ≡ b → Fit j v r
+        by_test true same =
+            let pop : p ≡ with_pop pops k p j = sym (ap (λ (b : Bool). if b then p else pops j) same) in
+            let k_is : k ≡ j = eqb-true k j same in
+            let n_is : i.number ≡ n =
+            same_some i.number n (sym all.number ∙ ap (λ (m : ℕ). slice_get i.on m) k_is ∙ on) in
+            subst (λ (x : Pop). FitsRun after.places after.limit r x v) pop
+            (fits_run s after r p v moves.limit moves.places
+            (subst (λ (x : QueueState). FitsRun s.places s.limit x p v)
+            (the_new i.queues i.number n q q' r n_is all.there is)
+            (subst (λ (x : ChainHandle). FitsRun s.places s.limit q' p x)
+            (the_new ws k j w new v k_is there now)
+            (fits_queue s.places s.limit q q' p new moves.event moves.fits))))
+        by_test false other =
+            let pop : pops j ≡ with_pop pops k p j = sym (ap (λ (b : Bool). if b then p else pops j) other) in
+            let before : slice_get ws j ≡ Some v = another ws k j new v (apart_of k j other) now in
+            subst (λ (x : Pop). FitsRun after.places after.limit r x v) pop
+            (fits_run s after r (pops j) v moves.limit moves.places
+            (each_queue i.queues i.number q q'
+            (λ m x. n ≡ m → FitsRun s.places s.limit x (pops j) v) all.there
+            (λ same. fits_queue s.places s.limit q q' (pops j) v moves.event
+            (all.whole.fits j v i.number q before (on ∙ ap (λ (m : ℕ). Some m) same) all.there))
+            (λ m x apart at_m same.
+            all.whole.fits j v m x before (on ∙ ap (λ (a : ℕ). Some a) same) at_m)
+            n r is refl))
 
 -- handle k has its chain in another phase
-pub keeps : (s after : Machine) (i page_size : ℕ) (q q' : QueueState) (ws : List ChainHandle)
+pub keeps : (s after : Machine) (i : Spot) (page_size : ℕ) (q q' : QueueState) (ws : List ChainHandle)
     (ob oh : List Owned) (k : ℕ) (w new : ChainHandle) (c c' : InFlightChain) (p : Pop) (pops : ℕ → Pop)
     (push push' : Option Begun)
-    → Driven s i page_size q ws (ob ++ own k c ∷ oh) pops push → slice_get ws k ≡ Some w →
+    → DrivenAt s i page_size k q ws (ob ++ own k c ∷ oh) pops push → slice_get ws k ≡ Some w →
     Moves s after i page_size k q q' p push push' new → CountsSame (live_of q) (live_of q')
     → after.chains ≡ chains_of ob ++ c' ∷ chains_of oh → HoldsChain s.page_size c' new →
     MineIn i page_size k q' push' c' new
-    → Driven after i page_size q' (with_handle ws k new) (ob ++ own k c' ∷ oh) (with_pop pops k p) push'
+    → Driven after i.on page_size (with_queue i.queues i.number q') (with_handle ws k new) (ob ++ own k c' ∷ oh)
+    (with_pop pops k p) (with_push i.pushes i.number push')
 keeps s after i page_size q q' ws ob oh k w new c c' p pops push push' all there moves counts chains holds mine =
     let none = amid k c ob oh all.all.once in
-    record {
-      all = keeps_others s after ws ob oh k w new c c' all.all there moves.page chains holds;
-      queue = moves.queue;
-      page = moves.page ∙ all.page;
-      small = subst (λ (n : ℕ). n ≤ 2 ^ 31) (sym moves.limit) all.small;
-      mine = λ j v d now is. its_own j v d now none (among ob oh (own k c') (own j d) is);
-      outs = λ j v now out. its_out j v now out none (by_number k j);
-      fits = all_fit s after i page_size q q' ws k w new p pops push push' moves there all.fits;
-      left = λ d m. still_lost d (among ob oh (own k c') (lost d) m);
-      still = moves.still;
-      counts = counts (length (ob ++ own k c' ∷ oh))
-          (subst (λ (n : ℕ). HasInFlight (live_of q) n) (with_other ob oh (own k c) (own k c')) all.counts);
-    }
+    let same : c.queue ≡ c'.queue = (all.mine w c there (here ob oh (own k c))).0 ∙ sym mine.0 in
+    turns s after i page_size q q' ws (ob ++ own k c ∷ oh) (ob ++ own k c' ∷ oh) k w new p pops push push' all there
+    moves (keeps_others s after ws ob oh k w new c c' all.all there moves.page chains holds)
+    (record {
+      from = λ j d m. its j d none (among ob oh (own k c') (own j d) m);
+      into = λ j d apart m. others j d apart (among ob oh (own k c) (own j d) m);
+      lost = λ d m. still_lost d (among ob oh (own k c') (lost d) m);
+      numbers = λ j apart. sym (number_other j ob oh (own k c) (own k c') same);
+    })
+    (λ out. (c', here ob oh (own k c')))
+    (counts (number_of i.number (ob ++ own k c' ∷ oh))
+    (subst (λ (n : ℕ). HasInFlight (live_of q) n) (number_other i.number ob oh (own k c) (own k c') same)
+    (all.whole.counts i.number q all.there)))
   where
-    still_lost : (d : InFlightChain) → (lost d ≡ own k c') ⊎ In (lost d) (ob ++ oh) → IsLost i d
+    its : (j : ℕ) (d : InFlightChain) → HasNone k ob × HasNone k oh →
+        (own j d ≡ own k c') ⊎ In (own j d) (ob ++ oh) →
+        ((k ≡ j) × MineIn i page_size k q' push' d new) ⊎ ((k ≡ j → ⊥) × In (own j d) (ob ++ own k c ∷ oh))
+    its j d none (inl e) =
+        inl (
+          sym (same_number j k d c' e),
+          subst (λ (x : InFlightChain). MineIn i page_size k q' push' x new) (sym (same_chain j k d c' e)) mine,
+        )
+    its j d none (inr m) =
+        inr (λ same. others_apart j k d c ob oh none m (sym same), put ob oh (own k c) (own j d) m)
+
+    others : (j : ℕ) (d : InFlightChain) → (k ≡ j → ⊥) → (own j d ≡ own k c) ⊎ In (own j d) (ob ++ oh) →
+        In (own j d) (ob ++ own k c' ∷ oh)
+    others j d apart (inl e) = absurd (apart (sym (same_number j k d c e)))
+    others j d apart (inr m) = put ob oh (own k c') (own j d) m
+
+    still_lost : (d : InFlightChain) → (lost d ≡ own k c') ⊎ In (lost d) (ob ++ oh) →
+        In (lost d) (ob ++ own k c ∷ oh)
     still_lost d (inl e) = absurd (not_lost k d c' e)
-    still_lost d (inr m) = all.left d (put ob oh (own k c) (lost d) m)
-
-    its_own : (j : ℕ) (v : ChainHandle) (d : InFlightChain) → slice_get (with_handle ws k new) j ≡ Some v →
-        HasNone k ob × HasNone k oh
-        → (own j d ≡ own k c') ⊎ In (own j d) (ob ++ oh) → MineIn i page_size j q' push' d v
-    its_own j v d now none (inl e) =
-        let same : k ≡ j = sym (same_number j k d c' e) in
-        let one : MineIn i page_size k q' push' d new =
-        subst (λ (x : InFlightChain). MineIn i page_size k q' push' x new) (sym (same_chain j k d c' e))
-        mine in
-        let two : MineIn i page_size k q' push' d v =
-        subst (λ (x : ChainHandle). MineIn i page_size k q' push' d x)
-        (the_new ws k j w new v same there now) one in
-        subst (λ (n : ℕ). MineIn i page_size n q' push' d v) same two
-    its_own j v d now none (inr m) =
-        let apart : k ≡ j → ⊥ = λ same. others_apart j k d c ob oh none m (sym same) in
-        let was = all.mine j v d (another ws k j new v apart now) (put ob oh (own k c) (own j d) m) in
-        (was.0, moves.others j d v.state apart was.1)
-
-    others_out : (j : ℕ) (v : ChainHandle) (d : InFlightChain) → (k ≡ j → ⊥) →
-        (own j d ≡ own k c) ⊎ In (own j d) (ob ++ oh)
-        → (e : InFlightChain) × In (own j e) (ob ++ own k c' ∷ oh)
-    others_out j v d apart (inl e) = absurd (apart (sym (same_number j k d c e)))
-    others_out j v d apart (inr m) = (d, put ob oh (own k c') (own j d) m)
-
-    its_out : (j : ℕ) (v : ChainHandle) → slice_get (with_handle ws k new) j ≡ Some v → is_out v.state ≡ true
-        → HasNone k ob × HasNone k oh → (k ≡ j) ⊎ (k ≡ j → ⊥) →
-        (e : InFlightChain) × In (own j e) (ob ++ own k c' ∷ oh)
-    its_out j v now out none (inl same) =
-        (c', subst (λ (n : ℕ). In (own n c') (ob ++ own k c' ∷ oh)) same (here ob oh (own k c')))
-    its_out j v now out none (inr apart) =
-        let was = all.outs j v (another ws k j new v apart now) out in
-        others_out j v was.0 apart (among ob oh (own k c) (own j was.0) was.1)
+    still_lost d (inr m) = put ob oh (own k c) (lost d) m
 
 abbrev IsYes : Bool → Type 0
 IsYes true = Unit {0}
@@ -284,45 +336,35 @@ pub not_free : (b : Bool) → b ≡ true → b ≡ false → ⊥
 not_free b t f = subst (λ (k : Bool). IsYes k) (sym t ∙ f) tt
 
 -- handle k has none anymore
-pub leaves : (s after : Machine) (i page_size : ℕ) (q q' : QueueState) (ws : List ChainHandle)
+pub leaves : (s after : Machine) (i : Spot) (page_size : ℕ) (q q' : QueueState) (ws : List ChainHandle)
     (ob oh : List Owned) (k : ℕ) (w new : ChainHandle) (c : InFlightChain) (p : Pop) (pops : ℕ → Pop)
     (push push' : Option Begun)
-    → Driven s i page_size q ws (ob ++ own k c ∷ oh) pops push → slice_get ws k ≡ Some w →
+    → DrivenAt s i page_size k q ws (ob ++ own k c ∷ oh) pops push → slice_get ws k ≡ Some w →
     Moves s after i page_size k q q' p push push' new → CountsLess (live_of q) (live_of q')
     → after.chains ≡ chains_of ob ++ chains_of oh → is_out new.state ≡ false
-    → Driven after i page_size q' (with_handle ws k new) (ob ++ oh) (with_pop pops k p) push'
+    → Driven after i.on page_size (with_queue i.queues i.number q') (with_handle ws k new) (ob ++ oh)
+    (with_pop pops k p) (with_push i.pushes i.number push')
 leaves s after i page_size q q' ws ob oh k w new c p pops push push' all there moves counts chains free =
     let none = amid k c ob oh all.all.once in
-    record {
-      all = leaves_others s after ws ob oh k new c all.all moves.page chains;
-      queue = moves.queue;
-      page = moves.page ∙ all.page;
-      small = subst (λ (n : ℕ). n ≤ 2 ^ 31) (sym moves.limit) all.small;
-      mine = λ j v d now m.
-          let apart : k ≡ j → ⊥ = λ same. others_apart j k d c ob oh none m (sym same) in
-          let was = all.mine j v d (another ws k j new v apart now) (put ob oh (own k c) (own j d) m) in
-          (was.0, moves.others j d v.state apart was.1);
-      outs = λ j v now out. its_out j v now out (by_number k j);
-      fits = all_fit s after i page_size q q' ws k w new p pops push push' moves there all.fits;
-      left = λ d m. all.left d (put ob oh (own k c) (lost d) m);
-      still = moves.still;
-      counts = counts (length (ob ++ oh))
-          (subst (λ (n : ℕ). HasInFlight (live_of q) n) (with_one ob oh (own k c)) all.counts);
-    }
+    let queue : c.queue ≡ i.number = (all.mine w c there (here ob oh (own k c))).0 in
+    turns s after i page_size q q' ws (ob ++ own k c ∷ oh) (ob ++ oh) k w new p pops push push' all there
+    moves (leaves_others s after ws ob oh k new c all.all moves.page chains)
+    (record {
+      from = λ j d m.
+          inr (λ same. others_apart j k d c ob oh none m (sym same), put ob oh (own k c) (own j d) m);
+      into = λ j d apart m. others j d apart (among ob oh (own k c) (own j d) m);
+      lost = λ d m. put ob oh (own k c) (lost d) m;
+      numbers = λ j apart. sym (number_same j ob oh (own k c) (λ is. apart (sym queue ∙ is)));
+    })
+    (λ out. absurd (not_free (is_out new.state) out free))
+    (counts (number_of i.number (ob ++ oh))
+    (subst (λ (n : ℕ). HasInFlight (live_of q) n) (number_one i.number ob oh (own k c) queue)
+    (all.whole.counts i.number q all.there)))
   where
-    others_out : (j : ℕ) (d : InFlightChain) → (k ≡ j → ⊥) → (own j d ≡ own k c) ⊎ In (own j d) (ob ++ oh)
-        → (e : InFlightChain) × In (own j e) (ob ++ oh)
-    others_out j d apart (inl e) = absurd (apart (sym (same_number j k d c e)))
-    others_out j d apart (inr m) = (d, m)
-
-    its_out : (j : ℕ) (v : ChainHandle) → slice_get (with_handle ws k new) j ≡ Some v → is_out v.state ≡ true
-        → (k ≡ j) ⊎ (k ≡ j → ⊥) → (e : InFlightChain) × In (own j e) (ob ++ oh)
-    its_out j v now out (inl same) =
-        absurd (not_free (is_out new.state)
-        (ap (λ (x : ChainHandle). is_out x.state) (the_new ws k j w new v same there now) ∙ out) free)
-    its_out j v now out (inr apart) =
-        let was = all.outs j v (another ws k j new v apart now) out in
-        others_out j was.0 apart (among ob oh (own k c) (own j was.0) was.1)
+    others : (j : ℕ) (d : InFlightChain) → (k ≡ j → ⊥) → (own j d ≡ own k c) ⊎ In (own j d) (ob ++ oh) →
+        In (own j d) (ob ++ oh)
+    others j d apart (inl e) = absurd (apart (sym (same_number j k d c e)))
+    others j d apart (inr m) = m
 
 -- ---- calls one behind another
 
@@ -372,32 +414,32 @@ parted (z ∷ zs) (c ∷ calls) more is =
       later = r.later;
     }
 
-reports_both : (i page_size : ℕ) (d mid end : Desk) (xs ys : List Seen) (es later : List LiveEvent)
-    → ReportsAll i page_size d xs es mid → ReportsAll i page_size mid ys later end
-    → ReportsAll i page_size d (xs ++ ys) (es ++ later) end
-reports_both i page_size d mid end [] ys es later first more =
-    subst (λ (k : Desk). ReportsAll i page_size k ys (es ++ later) end) first.1
-    (subst (λ (l : List LiveEvent). ReportsAll i page_size mid ys (l ++ later) end) (sym first.0) more)
-reports_both i page_size d mid end (x ∷ xs) ys es later first more = (
+reports_both : (on : List ℕ) (page_size : ℕ) (d mid end : Desk) (xs ys : List Seen) (es later : List LiveEvent)
+    → ReportsAll on page_size d xs es mid → ReportsAll on page_size mid ys later end
+    → ReportsAll on page_size d (xs ++ ys) (es ++ later) end
+reports_both on page_size d mid end [] ys es later first more =
+    subst (λ (k : Desk). ReportsAll on page_size k ys (es ++ later) end) first.1
+    (subst (λ (l : List LiveEvent). ReportsAll on page_size mid ys (l ++ later) end) (sym first.0) more)
+reports_both on page_size d mid end (x ∷ xs) ys es later first more = (
   first.0,
   first.1 ++ later,
   first.2,
   ap (λ (l : List LiveEvent). l ++ later) first.3 ∙ append_assoc first.0 first.1 later,
   first.4,
   first.5,
-  reports_both i page_size first.2 mid end xs ys first.1 later first.6 more,
+  reports_both on page_size first.2 mid end xs ys first.1 later first.6 more,
 )
 
-pub carries_on : (page_size : ℕ) (one two three : List ChainHandle) (q q' q'' : QueueState)
-    (calls more : List Called) → Drives page_size one two q q' calls
+pub carries_on : (on : List ℕ) (page_size : ℕ) (one two three : List ChainHandle) (q q' q'' : List QueueState)
+    (calls more : List Called) → Drives on page_size one two q q' calls
     →
-    Drives page_size two three q' q'' more → Drives page_size one three q q'' (calls ++ more)
+    Drives on page_size two three q' q'' more → Drives on page_size one three q q'' (calls ++ more)
 unfolding Drives
-carries_on page_size one two three q q' q'' calls more first later zs is s i os pops push all =
+carries_on on page_size one two three q q' q'' calls more first later zs is s os pops pushes all =
     let p = parted zs calls more is in
-    let a = first p.front p.first s i os pops push all in
-    let b = later p.behind p.later a.1 i a.2 a.3 a.4 a.6 in
-    let d : Desk = desk s one q os pops push in
+    let a = first p.front p.first s os pops pushes all in
+    let b = later p.behind p.later a.1 a.2 a.3 a.4 a.6 in
+    let d : Desk = desk s one q os pops pushes in
     let mid : Desk = desk a.1 two q' a.2 a.3 a.4 in
     let end : Desk = desk b.1 three q'' b.2 b.3 b.4 in (
       a.0 ++ b.0,
@@ -407,8 +449,8 @@ carries_on page_size one two three q q' q'' calls more first later zs is s i os 
       b.4,
       joined any_files s a.1 b.1 a.0 b.0 a.5 b.5,
       b.6,
-      subst (λ (l : List Seen). ReportsAll i page_size d l (a.0 ++ b.0) end) (sym p.all)
-          (reports_both i page_size d mid end p.front p.behind a.0 b.0 a.7 b.7),
+      subst (λ (l : List Seen). ReportsAll on page_size d l (a.0 ++ b.0) end) (sym p.all)
+          (reports_both on page_size d mid end p.front p.behind a.0 b.0 a.7 b.7),
     )
 
 -- ---- a handle without a chain
@@ -425,22 +467,23 @@ held_out page_size c p (at.Pushing out) session held = refl
 held_out page_size c _ _ session held = absurd held
 
 -- what a handle has is its chain of the run
-pub record Has (s : Machine) (i page_size : ℕ) (q : QueueState) (ws : List ChainHandle) (os : List Owned)
-    (k : ℕ) (w : ChainHandle) (c : InFlightChain) (pops : ℕ → Pop) (push : Option Begun) : Type 0 where
+pub record Has (s : Machine) (i : Spot) (page_size : ℕ) (q : QueueState) (ws : List ChainHandle)
+    (os : List Owned) (k : ℕ) (w : ChainHandle) (c : InFlightChain) (pops : ℕ → Pop) (push : Option Begun) :
+    Type 0 where
   pub ob : List Owned
   pub oh : List Owned
-  pub driven : Driven s i page_size q ws (ob ++ own k c ∷ oh) pops push
+  pub driven : DrivenAt s i page_size k q ws (ob ++ own k c ∷ oh) pops push
   pub chains : s.chains ≡ chains_of ob ++ c ∷ chains_of oh
   pub holds : HoldsChain s.page_size c w
 
-pub has_own : (s : Machine) (i page_size : ℕ) (q : QueueState) (ws : List ChainHandle) (os : List Owned)
-    (k : ℕ) (w : ChainHandle) (c : InFlightChain) (pops : ℕ → Pop) (push : Option Begun)
-    → Driven s i page_size q ws os pops push → slice_get ws k ≡ Some w → In (own k c) os →
+pub has_own : (s : Machine) (i : Spot) (page_size : ℕ) (q : QueueState) (ws : List ChainHandle)
+    (os : List Owned) (k : ℕ) (w : ChainHandle) (c : InFlightChain) (pops : ℕ → Pop) (push : Option Begun)
+    → DrivenAt s i page_size k q ws os pops push → slice_get ws k ≡ Some w → In (own k c) os →
     Has s i page_size q ws os k w c pops push
 has_own s i page_size q ws os k w c pops push all there is =
     let r = split os (own k c) is in
-    let driven : Driven s i page_size q ws (r.0 ++ own k c ∷ r.1) pops push =
-    subst (λ (l : List Owned). Driven s i page_size q ws l pops push) r.2 all in
+    let driven : DrivenAt s i page_size k q ws (r.0 ++ own k c ∷ r.1) pops push =
+    subst (λ (l : List Owned). DrivenAt s i page_size k q ws l pops push) r.2 all in
     let finds = finds_own s ws r.0 r.1 k w c driven.all there in
     record { ob = r.0; oh = r.1; driven = driven; chains = finds.0; holds = finds.1 }
 
@@ -457,9 +500,9 @@ none_of k (o ∷ os) none = (isnt k o os none o.handle refl, none_of k os (λ c 
         (inl (ap (λ (h : Option ℕ). record { handle = h; chain = o.chain })
         (sym (ap (λ (n : ℕ). Some n) same) ∙ sym is)))
 
-has_none : (s : Machine) (i page_size : ℕ) (q : QueueState) (ws : List ChainHandle) (os : List Owned) (k : ℕ)
-    (w : ChainHandle) (pops : ℕ → Pop) (push : Option Begun)
-    → Driven s i page_size q ws os pops push → slice_get ws k ≡ Some w → is_out w.state ≡ false →
+has_none : (s : Machine) (i : Spot) (page_size : ℕ) (q : QueueState) (ws : List ChainHandle) (os : List Owned)
+    (k : ℕ) (w : ChainHandle) (pops : ℕ → Pop) (push : Option Begun)
+    → DrivenAt s i page_size k q ws os pops push → slice_get ws k ≡ Some w → is_out w.state ≡ false →
     (c : InFlightChain) →
     In (own k c) os → ⊥
 has_none s i page_size q ws os k w pops push all there free c is =
@@ -467,44 +510,33 @@ has_none s i page_size q ws os k w pops push all there free c is =
     not_free (is_out w.state) (held_out s.page_size c c.phase w.state w.session has.holds) free
 
 -- handle k has no chain, before and after
-pub idles : (s after : Machine) (i page_size : ℕ) (q q' : QueueState) (ws : List ChainHandle)
+pub idles : (s after : Machine) (i : Spot) (page_size : ℕ) (q q' : QueueState) (ws : List ChainHandle)
     (os : List Owned) (k : ℕ) (w new : ChainHandle) (p : Pop) (pops : ℕ → Pop) (push push' : Option Begun)
-    → Driven s i page_size q ws os pops push → slice_get ws k ≡ Some w →
+    → DrivenAt s i page_size k q ws os pops push → slice_get ws k ≡ Some w →
     Moves s after i page_size k q q' p push push' new → CountsSame (live_of q) (live_of q') →
     after.chains ≡ s.chains
     → is_out w.state ≡ false → is_out new.state ≡ false →
-    Driven after i page_size q' (with_handle ws k new) os (with_pop pops k p) push'
+    Driven after i.on page_size (with_queue i.queues i.number q') (with_handle ws k new) os (with_pop pops k p)
+    (with_push i.pushes i.number push')
 idles s after i page_size q q' ws os k w new p pops push push' all there moves counts chains free still =
     let none = has_none s i page_size q ws os k w pops push all there free in
     let held = all_still s.page_size ws k new os (none_of k os none) all.all.held in
-    record {
-      all = record {
-        chains = chains ∙ all.all.chains;
-        held = subst
-            (λ (n : ℕ). AllByRecursion (λ (o : Owned). IsHeldBy n (with_handle ws k new) o.handle o.chain) os)
-            (sym moves.page) held;
-        once = all.all.once;
-      };
-      queue = moves.queue;
-      page = moves.page ∙ all.page;
-      small = subst (λ (n : ℕ). n ≤ 2 ^ 31) (sym moves.limit) all.small;
-      mine = λ j v d now m.
-          let apart : k ≡ j → ⊥ = λ same. none d (subst (λ (n : ℕ). In (own n d) os) (sym same) m) in
-          let was = all.mine j v d (another ws k j new v apart now) m in
-          (was.0, moves.others j d v.state apart was.1);
-      outs = λ j v now out. its_out j v now out (by_number k j);
-      fits = all_fit s after i page_size q q' ws k w new p pops push push' moves there all.fits;
-      left = all.left;
-      still = moves.still;
-      counts = counts (length os) all.counts;
-    }
-  where
-    its_out : (j : ℕ) (v : ChainHandle) → slice_get (with_handle ws k new) j ≡ Some v → is_out v.state ≡ true
-        → (k ≡ j) ⊎ (k ≡ j → ⊥) → (e : InFlightChain) × In (own j e) os
-    its_out j v now out (inl same) =
-        absurd (not_free (is_out new.state)
-        (ap (λ (x : ChainHandle). is_out x.state) (the_new ws k j w new v same there now) ∙ out) still)
-    its_out j v now out (inr apart) = all.outs j v (another ws k j new v apart now) out
+    turns s after i page_size q q' ws os os k w new p pops push push' all there moves
+    (record {
+      chains = chains ∙ all.all.chains;
+      held = subst
+          (λ (n : ℕ). AllByRecursion (λ (o : Owned). IsHeldBy n (with_handle ws k new) o.handle o.chain) os)
+          (sym moves.page) held;
+      once = all.all.once;
+    })
+    (record {
+      from = λ j d m. inr (λ same. none d (subst (λ (n : ℕ). In (own n d) os) (sym same) m), m);
+      into = λ j d apart m. m;
+      lost = λ d m. m;
+      numbers = λ j apart. refl;
+    })
+    (λ out. absurd (not_free (is_out new.state) out still))
+    (counts (number_of i.number os) (all.whole.counts i.number q all.there))
 
 -- handle k gets a chain
 in_last : (os : List Owned) (x y : Owned) → In y (os ++ x ∷ []) → (y ≡ x) ⊎ In y os
@@ -518,55 +550,42 @@ in_front [] x y m = absurd m
 in_front (o ∷ os) x y (inl e) = inl e
 in_front (o ∷ os) x y (inr m) = inr (in_front os x y m)
 
-pub joins : (s after : Machine) (i page_size : ℕ) (q q' : QueueState) (ws : List ChainHandle)
+pub joins : (s after : Machine) (i : Spot) (page_size : ℕ) (q q' : QueueState) (ws : List ChainHandle)
     (os : List Owned) (k : ℕ) (w new : ChainHandle) (c : InFlightChain) (p : Pop) (pops : ℕ → Pop)
     (push push' : Option Begun)
-    → Driven s i page_size q ws os pops push → slice_get ws k ≡ Some w →
+    → DrivenAt s i page_size k q ws os pops push → slice_get ws k ≡ Some w →
     Moves s after i page_size k q q' p push push' new → CountsMore (live_of q) (live_of q') →
     after.chains ≡ s.chains ++ c ∷ []
     → is_out w.state ≡ false → HoldsChain s.page_size c new → MineIn i page_size k q' push' c new
-    → Driven after i page_size q' (with_handle ws k new) (os ++ own k c ∷ []) (with_pop pops k p) push'
+    → Driven after i.on page_size (with_queue i.queues i.number q') (with_handle ws k new) (os ++ own k c ∷ [])
+    (with_pop pops k p) (with_push i.pushes i.number push')
 joins s after i page_size q q' ws os k w new c p pops push push' all there moves counts chains free holds mine =
     let none = has_none s i page_size q ws os k w pops push all there free in
-    record {
-      all = joins_others s after ws os k w new c all.all (none_of k os none) there moves.page chains holds;
-      queue = moves.queue;
-      page = moves.page ∙ all.page;
-      small = subst (λ (n : ℕ). n ≤ 2 ^ 31) (sym moves.limit) all.small;
-      mine = λ j v d now m. its_own j v d now none (in_last os (own k c) (own j d) m);
-      outs = λ j v now out. its_out j v now out (by_number k j);
-      fits = all_fit s after i page_size q q' ws k w new p pops push push' moves there all.fits;
-      left = λ d m. still_lost d (in_last os (own k c) (lost d) m);
-      still = moves.still;
-      counts = subst (λ (n : ℕ). HasInFlight (live_of q') n) (sym (with_last os (own k c)))
-          (counts (length os) all.counts);
-    }
+    turns s after i page_size q q' ws os (os ++ own k c ∷ []) k w new p pops push push' all there moves
+    (joins_others s after ws os k w new c all.all (none_of k os none) there moves.page chains holds)
+    (record {
+      from = λ j d m. its j d none (in_last os (own k c) (own j d) m);
+      into = λ j d apart m. in_front os (own k c) (own j d) m;
+      lost = λ d m. still_lost d (in_last os (own k c) (lost d) m);
+      numbers = λ j apart.
+          number_same j os [] (own k c) (λ is. apart (sym mine.0 ∙ is))
+          ∙ ap (number_of j) (append-nil os);
+    })
+    (λ out. (c, here os [] (own k c)))
+    (subst (λ (n : ℕ). HasInFlight (live_of q') n)
+    (sym (number_one i.number os [] (own k c) mine.0 ∙ ap (λ (l : List Owned). suc (number_of i.number l)) (append-nil os)))
+    (counts (number_of i.number os) (all.whole.counts i.number q all.there)))
   where
-    still_lost : (d : InFlightChain) → (lost d ≡ own k c) ⊎ In (lost d) os → IsLost i d
+    its : (j : ℕ) (d : InFlightChain) → ((e : InFlightChain) → In (own k e) os → ⊥) →
+        (own j d ≡ own k c) ⊎ In (own j d) os →
+        ((k ≡ j) × MineIn i page_size k q' push' d new) ⊎ ((k ≡ j → ⊥) × In (own j d) os)
+    its j d none (inl e) =
+        inl (
+          sym (same_number j k d c e),
+          subst (λ (x : InFlightChain). MineIn i page_size k q' push' x new) (sym (same_chain j k d c e)) mine,
+        )
+    its j d none (inr m) = inr (λ same. none d (subst (λ (n : ℕ). In (own n d) os) (sym same) m), m)
+
+    still_lost : (d : InFlightChain) → (lost d ≡ own k c) ⊎ In (lost d) os → In (lost d) os
     still_lost d (inl e) = absurd (not_lost k d c e)
-    still_lost d (inr m) = all.left d m
-
-    its_own : (j : ℕ) (v : ChainHandle) (d : InFlightChain) → slice_get (with_handle ws k new) j ≡ Some v
-        → ((e : InFlightChain) → In (own k e) os → ⊥) → (own j d ≡ own k c) ⊎ In (own j d) os →
-        MineIn i page_size j q' push' d v
-    its_own j v d now none (inl e) =
-        let same : k ≡ j = sym (same_number j k d c e) in
-        let one : MineIn i page_size k q' push' d new =
-        subst (λ (x : InFlightChain). MineIn i page_size k q' push' x new) (sym (same_chain j k d c e))
-        mine in
-        let two : MineIn i page_size k q' push' d v =
-        subst (λ (x : ChainHandle). MineIn i page_size k q' push' d x)
-        (the_new ws k j w new v same there now) one in
-        subst (λ (n : ℕ). MineIn i page_size n q' push' d v) same two
-    its_own j v d now none (inr m) =
-        let apart : k ≡ j → ⊥ = λ same. none d (subst (λ (n : ℕ). In (own n d) os) (sym same) m) in
-        let was = all.mine j v d (another ws k j new v apart now) m in
-        (was.0, moves.others j d v.state apart was.1)
-
-    its_out : (j : ℕ) (v : ChainHandle) → slice_get (with_handle ws k new) j ≡ Some v → is_out v.state ≡ true
-        → (k ≡ j) ⊎ (k ≡ j → ⊥) → (e : InFlightChain) × In (own j e) (os ++ own k c ∷ [])
-    its_out j v now out (inl same) =
-        (c, subst (λ (n : ℕ). In (own n c) (os ++ own k c ∷ [])) same (here os [] (own k c)))
-    its_out j v now out (inr apart) =
-        let was = all.outs j v (another ws k j new v apart now) out in
-        (was.0, in_front os (own k c) (own j was.0) was.1)
+    still_lost d (inr m) = m

@@ -1,4 +1,5 @@
 pub mod AheadPops
+pub mod Among
 pub mod Answering
 pub mod Begins
 pub mod Bringing
@@ -17,3 +18,4 @@ pub mod Moving
 pub mod Pops
 pub mod Remaps
 pub mod Resets
+pub mod Spots

@@ -1,6 +1,6 @@
 -- The end of a listing without entries drives the run: the reading of its directory is answered.
 use Rattle.std.proofs.Common.{◌≡◌, ◌≤◌, ℕ, Bool, true, false, List, [], ◌∷◌, Option, Some, arith}
-use Rattle.std.proofs.Common.{refl, subst, sym, ap, lt-ltb, slice_get, ◌∙◌}
+use Rattle.std.proofs.Common.{refl, subst, sym, ap, lt-ltb, slice_get}
 use Rattle.std.specs.Prelude.{IsTrue, Result, Ok, Err, IfOk, OnOk, OnErr, nat_lt, ◌&&◌}
 use Rattle.fuse_fs.specs.Calls.{Entries, Failed, FileAnswer, FileCall, suits}
 use Rattle.plain_machine.specs.Step.{Calls}
@@ -25,11 +25,12 @@ use Rattle.fs_chain.specs.declared.state.ChainState.TheVariants as at
 use Rattle.fs_chain.specs.declared.state.InFlight.{InFlight}
 use Rattle.fs_driven.specs.declared.commands.Command.TheVariants as does
 use Rattle.fs_driven.specs.declared.commands.Returned.TheVariants as gives
-use Rattle.fs_driven.specs.Desks.{Begun, Driven, IsReady, Leads, desk}
+use Rattle.fs_driven.specs.Desks.{Begun, IsReady}
 use Rattle.fs_driven.specs.Reported.{DrivesOne, ReportsListing, turn}
 use Rattle.fs_chain.proofs.HoldsListed.{begins_listing, reads_directory}
 use Rattle.fs_chain.proofs.Together.{chains_of}
 use Rattle.fs_driven.proofs.Handles.{has_own}
+use Rattle.fs_driven.proofs.Spots.{DrivenAt, LeadsAt, Spot, desk_before, drives_one}
 use Rattle.fs_driven.proofs.Answering.{answered_all}
 use Rattle.fs_driven.proofs.Calls.{HasNoPush, refuses, same_all, same_held}
 
@@ -108,16 +109,16 @@ listing_drives : (page_size : ℕ) (old new : ChainHandle) (q : QueueState) (ser
     IsTrue (suits (readdir_call h.asked) answer))
     → HasRead new answer len old → P (Ok len)
     → (ws : List ChainHandle) (k : ℕ) → slice_get ws k ≡ Some old
-    → (s : Machine) (i : ℕ) (os : List Owned) (pops : ℕ → Pop) (push : Option Begun)
-    → Driven s i page_size q ws os pops push
-    → Leads s i page_size q (with_handle ws k new)
-    (λ es d. ReportsListing (turn i page_size k (desk s ws q os pops push) d old new) serial answer P (Ok len) es)
+    → (s : Machine) (i : Spot) (os : List Owned) (pops : ℕ → Pop) (push : Option Begun)
+    → DrivenAt s i page_size k q ws os pops push
+    → LeadsAt s i page_size q (with_handle ws k new)
+    (λ es d. ReportsListing (turn i.number page_size k (desk_before s i ws os pops) d old new q q) serial answer P (Ok len) es)
 listing_drives page_size old new q serial answer P len was same suited listed reported ws k there s i os pops push
     all =
-    let own_one = all.outs k old there (ap is_out was.2) in
+    let own_one = all.outs old there (ap is_out was.2) in
     let c = own_one.0 in
     let has = has_own s i page_size q ws os k old c pops push all there own_one.1 in
-    let mine = all.mine k old c there own_one.1 in
+    let mine = all.mine old c there own_one.1 in
     let h = begun_listing s.page_size page_size k q push c old was.0 was.1 [] was.2 mine.1 has.holds in
     let call : FileCall = readdir_call h.asked in
     let calls : Calls = read_calls call answer in
@@ -127,7 +128,7 @@ listing_drives page_size old new q serial answer P len was same suited listed re
     let after : Machine = after_answer s (chains_of has.ob) (chains_of has.oh) c h.request h.options calls tt in
     answered_all s i page_size k q ws has.ob has.oh pops push old new c h.request h.options calls after
     (ReceivesAnswer c call answer ∷ [])
-    (λ es d. ReportsListing (turn i page_size k (desk s ws q os pops push) d old new) serial answer P (Ok len) es)
+    (λ es d. ReportsListing (turn i.number page_size k (desk_before s i ws os pops) d old new q q) serial answer P (Ok len) es)
     has.driven there mine.0 (same.0.0, same.0.1) r.holds (no_push new.state h.out r.preserved r.state) r.none_pending
     (after, reads.0, refl) refl refl refl refl refl
     (λ after' os' pops'. (c, call, h.request, h.options, own_one.1, h.phase, refl, same, refl, reported))
@@ -141,7 +142,7 @@ ended_not : (old new : ChainHandle) (q : QueueState) (serial : ℕ) (e : ChainEr
     → (page_size : ℕ) → DrivesOne page_size old new q q (does.EndListing serial) (gives.Listed (Err e))
 ended_not old new q serial e reported same page_size =
     refuses page_size old new q (does.EndListing serial) (gives.Listed (Err e)) (same_held old new same)
-    (λ i k d d' u is now. (refl, (same_all old new same, now ∙ sym is), reported))
+    (λ i k d d' u. (refl, (same_all old new same, refl), reported))
 
 pub ended : (old new : ChainHandle) (q : QueueState) (serial : ℕ) (result : Result ℕ ChainError)
     → UnlessRefused (serial_error old.state old.serial serial) result (new ≡ old)
@@ -151,16 +152,16 @@ pub ended : (old new : ChainHandle) (q : QueueState) (serial : ℕ) (result : Re
     → IsAllButPlace old new
     → IfOk result (λ len. EndsListing old new len)
     → (page_size : ℕ) → DrivesOne page_size old new q q (does.EndListing serial) (gives.Listed result)
-unfolding DrivesOne EndsListing has_read
-ended old new q serial (Ok len) reported ends same stays step page_size ws k there u s i os pops push all =
+unfolding EndsListing has_read
+ended old new q serial (Ok len) reported ends same stays step page_size = drives_one _ _ (λ ws k there u s i os pops push all.
     listing_drives page_size old new q serial (Entries []) (λ r. EndsByEntries old.state new.state r) len
     (was_listing _ old.state new.state len ends) stays
     (λ page c h. refl)
     (λ page c h. step page (asked_chain c h.request h.options (read_calls (readdir_call h.asked) (Entries []))) []
     EndsThere (read_calls (readdir_call h.asked) (Entries [])) [] (has_read page c old (Entries []) h) tt refl)
-    ends ws k there s i os pops push all
-ended old new q serial (Err e) reported ends same stays step page_size ws k there u s i os pops push all =
-    ended_not old new q serial e reported same page_size ws k there u s i os pops push all
+    ends ws k there s i os pops push all)
+ended old new q serial (Err e) reported ends same stays step page_size =
+    ended_not old new q serial e reported same page_size
 
 -- an error's number
 pub errno_suits : (errno : ℕ) → 1 ≤ errno → errno ≤ 4095 → IsTrue (nat_lt 0 errno && nat_lt errno 4096)
@@ -181,7 +182,7 @@ failed_not : (old new : ChainHandle) (q : QueueState) (serial errno : ℕ) (e : 
     → (page_size : ℕ) → DrivesOne page_size old new q q (does.FailListing serial errno) (gives.Listed (Err e))
 failed_not old new q serial errno e reported same page_size =
     refuses page_size old new q (does.FailListing serial errno) (gives.Listed (Err e)) (same_held old new same)
-    (λ i k d d' u is now. (refl, (same_all old new same, now ∙ sym is), reported))
+    (λ i k d d' u. (refl, (same_all old new same, refl), reported))
 
 pub failed : (old new : ChainHandle) (q : QueueState) (serial errno : ℕ) (result : Result ℕ ChainError)
     → 1 ≤ errno → errno ≤ 4095
@@ -192,16 +193,15 @@ pub failed : (old new : ChainHandle) (q : QueueState) (serial errno : ℕ) (resu
     → IsAllButPlace old new
     → IfOk result (λ len. FailsListing errno old new len)
     → (page_size : ℕ) → DrivesOne page_size old new q q (does.FailListing serial errno) (gives.Listed result)
-unfolding DrivesOne FailsListing has_read
-failed old new q serial errno (Ok len) low high reported ends same stays step page_size ws k there u s i os pops push
-    all =
+unfolding FailsListing has_read
+failed old new q serial errno (Ok len) low high reported ends same stays step page_size =
+    drives_one _ _ (λ ws k there u s i os pops push all.
     listing_drives page_size old new q serial (Failed errno) (λ r. EndsByError errno old.state new.state r) len
     (was_listing _ old.state new.state len ends) stays
     (λ page c h. errno_suits errno low high)
     (λ page c h. step page (asked_chain c h.request h.options (read_calls (readdir_call h.asked) (Failed errno))) []
     (Unreadable errno) (read_calls (readdir_call h.asked) (Failed errno)) [] (has_read page c old (Failed errno) h)
     refl (unread (readdir_call h.asked) h.asked.with_nodes errno))
-    ends ws k there s i os pops push all
-failed old new q serial errno (Err e) low high reported ends same stays step page_size ws k there u s i os pops push
-    all =
-    failed_not old new q serial errno e reported same page_size ws k there u s i os pops push all
+    ends ws k there s i os pops push all)
+failed old new q serial errno (Err e) low high reported ends same stays step page_size =
+    failed_not old new q serial errno e reported same page_size

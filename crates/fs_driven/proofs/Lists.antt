@@ -8,9 +8,9 @@ use Rattle.fs_chain.specs.Orders.{is_out}
 use Rattle.fs_driven.proofs.Handles.{Seen, carries_on, none_some, not_free, same_first, same_rest}
 use Rattle.fs_driven.proofs.Pops.{idle_may}
 use Rattle.vm_memory_core.specs.Host.{changed_at}
-use Rattle.fs_driven.specs.Desks.{BeginsDriven, Desk, Leads, desk, no_pop}
+use Rattle.fs_driven.specs.Desks.{BeginsDriven, Desk, Leads, desk, no_pop, with_queue}
 use Rattle.fs_driven.specs.Reported.{Called, Drives, DrivesOne, ReportsAll, Unseen, call_of, calls_of}
-use Rattle.fs_driven.specs.Reported.{is_of_queue, seen_of}
+use Rattle.fs_driven.specs.Reported.{IsMissing, is_of_queue, seen_of}
 use Rattle.fs_chain.specs.Together.{with_handle}
 use Rattle.fs_chain.specs.declared.chain_handle.ChainHandle.{ChainHandle}
 use Rattle.fs_driven.specs.declared.commands.Command.{Command}
@@ -18,7 +18,7 @@ use Rattle.fs_driven.specs.declared.commands.Returned.{Returned}
 use Rattle.fs_driven.specs.declared.commands.Returned.TheVariants as gives
 use Rattle.fs_chain.specs.declared.queue.QueueState.{QueueState}
 
-set_changed : {A : Type 0} (xs : List A) (k : ℕ) (x : A) → slice_set xs k x ≡ changed_at xs k (λ _. x)
+pub set_changed : {A : Type 0} (xs : List A) (k : ℕ) (x : A) → slice_set xs k x ≡ changed_at xs k (λ _. x)
 set_changed {A} (y ∷ ys) (suc k) x = ap (λ (l : List A). y ∷ l) (set_changed ys k x)
 set_changed _ _ x = refl
 
@@ -29,21 +29,22 @@ single (z ∷ []) c is = (z.1, ap (λ (x : Called). (x, z.1) ∷ []) (same_first
 single (z ∷ y ∷ zs) c is =
     absurd (none_some y.0 (seen_of zs) (sym (same_rest z.0 c (y.0 ∷ seen_of zs) [] is)))
 
-pub at_place : (page_size : ℕ) (ws : List ChainHandle) (k : ℕ) (w new : ChainHandle) (q q' : QueueState)
-    (command : Command) (returned : Returned) →
-    slice_get ws k ≡ Some w →
+pub at_place : (on : List ℕ) (page_size : ℕ) (ws : List ChainHandle) (k : ℕ) (w new : ChainHandle)
+    (qs : List QueueState) (i : ℕ) (q q' : QueueState) (command : Command) (returned : Returned) →
+    slice_get ws k ≡ Some w → slice_get on k ≡ Some i → slice_get qs i ≡ Some q →
     is_of_queue command ≡ false →
     DrivesOne page_size w new q q' command returned →
-    Drives page_size ws (slice_set ws k new) q q'
-    (call_of k command returned ∷ [])
+    Drives on page_size ws (slice_set ws k new) qs (slice_set qs i q') (call_of k command returned ∷ [])
 unfolding DrivesOne Drives
-at_place page_size ws k w new q q' command returned there mine one zs is s i os pops push all =
+at_place on page_size ws k w new qs i q q' command returned there number queue mine one zs is s os pops pushes all =
     let z = single zs (call_of k command returned) is in
-    let a = one ws k there z.0 s i os pops push all in
-    let d : Desk = desk s ws q os pops push in
-    let end : Desk = desk a.1 (with_handle ws k new) q' a.2 a.3 a.4 in
-    subst (λ (l : List ChainHandle). Leads s i page_size q' l (λ es e. ReportsAll i page_size d zs es e))
-    (sym (set_changed ws k new)) (
+    let a = one ws k there on qs i number queue z.0 s os pops pushes all in
+    let d : Desk = desk s ws qs os pops pushes in
+    let end : Desk = desk a.1 (with_handle ws k new) (with_queue qs i q') a.2 a.3 a.4 in
+    subst (λ (l : List ChainHandle). Leads s on page_size (slice_set qs i q') l
+    (λ es e. ReportsAll on page_size d zs es e)) (sym (set_changed ws k new))
+    (subst (λ (l : List QueueState). Leads s on page_size l (with_handle ws k new)
+    (λ es e. ReportsAll on page_size d zs es e)) (sym (set_changed qs i q')) (
       a.0,
       a.1,
       a.2,
@@ -51,44 +52,36 @@ at_place page_size ws k w new q q' command returned there mine one zs is s i os 
       a.4,
       a.5,
       a.6,
-      subst (λ (l : List Seen). ReportsAll i page_size d l a.0 end) (sym z.1)
-          (a.0, [], end, sym (append-nil a.0), (a.5, a.6), inl (mine, w, new, there, refl, a.7), (refl, refl)),
-    )
+      subst (λ (l : List Seen). ReportsAll on page_size d l a.0 end) (sym z.1) (
+        a.0,
+        [],
+        end,
+        sym (append-nil a.0),
+        (a.5, a.6),
+        inl (
+          mine,
+          record {
+            queue = i;
+            was = w;
+            now = new;
+            before = q;
+            after = q';
+            handle = there;
+            number = number;
+            there = queue;
+            handles = refl;
+            queues = refl;
+            reports = a.7;
+          },
+        ),
+        (refl, refl),
+      ),
+    ))
 
-nowhere : {A : Type 0} (xs : List A) (k : ℕ) → length xs ≤ k → slice_get xs k ≡ None
+pub nowhere : {A : Type 0} (xs : List A) (k : ℕ) → length xs ≤ k → slice_get xs k ≡ None
 nowhere [] k past = refl
 nowhere {A} (y ∷ ys) zero past = absurd (omega arith)
 nowhere {A} (y ∷ ys) (suc k) past = let more : length ys ≤ k = omega arith in nowhere ys k more
-
--- there is no such handle
-pub no_place : (page_size : ℕ) (ws : List ChainHandle) (k : ℕ) (q : QueueState) (command : Command)
-    → length ws ≤ k → is_of_queue command ≡ false
-    → Drives page_size ws ws q q (call_of k command gives.NoHandle ∷ [])
-unfolding Drives
-no_place page_size ws k q command past mine zs is s i os pops push all =
-    let z = single zs (call_of k command gives.NoHandle) is in
-    let d : Desk = desk s ws q os pops push in (
-      [],
-      s,
-      os,
-      pops,
-      push,
-      refl,
-      all,
-      subst (λ (l : List Seen). ReportsAll i page_size d l [] d) (sym z.1)
-          ([], [], d, refl, (refl, all), inr (inl (mine, nowhere ws k past, refl, refl, refl)), (refl, refl)),
-    )
-
--- no calls
-pub at_none : (page_size : ℕ) (ws : List ChainHandle) (q : QueueState) → Drives page_size ws ws q q []
-unfolding Drives
-at_none page_size ws q zs is s i os pops push all =
-    ([], s, os, pops, push, refl, all, by_list zs is)
-  where
-    by_list : (l : List Seen) → seen_of l ≡ [] →
-        ReportsAll i page_size (desk s ws q os pops push) l [] (desk s ws q os pops push)
-    by_list [] none = (refl, refl)
-    by_list (z ∷ l) none = absurd (none_some z.0 (seen_of l) (sym none))
 
 -- the element at an index within a list
 pub got : {A : Type 0} (xs : List A) (k : ℕ) (x : A) → k < length xs → x ≡ get_or xs k x →
@@ -97,20 +90,81 @@ got {A} [] k x less is = absurd (omega arith)
 got {A} (y ∷ ys) zero x less is = ap (λ (z : A). Some z) (sym is)
 got {A} (y ∷ ys) (suc k) x less is = let more : k < length ys = omega arith in got ys k x more is
 
+-- a number at an index within a list
+pub number_at : (ks : List ℕ) (n : ℕ) → n < length ks → get_or ks n 0 ≡ get_or ks n (get_or ks n 0)
+number_at [] n less = absurd (omega arith)
+number_at (k ∷ ks) zero less = refl
+number_at (k ∷ ks) (suc n) less = let more : n < length ks = omega arith in number_at ks n more
+
+-- there is no such handle, or it has no queue
+missing : (on : List ℕ) (page_size : ℕ) (ws : List ChainHandle) (k : ℕ) (qs : List QueueState) (command : Command)
+    → ((d : Desk) → d.handles ≡ ws → d.queues ≡ qs → IsMissing on d k) → is_of_queue command ≡ false
+    → Drives on page_size ws ws qs qs (call_of k command gives.NoHandle ∷ [])
+unfolding Drives
+missing on page_size ws k qs command none mine zs is s os pops pushes all =
+    let z = single zs (call_of k command gives.NoHandle) is in
+    let d : Desk = desk s ws qs os pops pushes in (
+      [],
+      s,
+      os,
+      pops,
+      pushes,
+      refl,
+      all,
+      subst (λ (l : List Seen). ReportsAll on page_size d l [] d) (sym z.1)
+          ([], [], d, refl, (refl, all), inr (inl (mine, none d refl refl, refl, refl, refl)), (refl, refl)),
+    )
+
+pub no_place : (on : List ℕ) (page_size : ℕ) (ws : List ChainHandle) (k : ℕ) (qs : List QueueState)
+    (command : Command) → length ws ≤ k → is_of_queue command ≡ false
+    → Drives on page_size ws ws qs qs (call_of k command gives.NoHandle ∷ [])
+no_place on page_size ws k qs command past mine =
+    missing on page_size ws k qs command
+    (λ d ws_is qs_is. inl (ap (λ (l : List ChainHandle). slice_get l k) ws_is ∙ nowhere ws k past)) mine
+
+pub no_number : (on : List ℕ) (page_size : ℕ) (ws : List ChainHandle) (k : ℕ) (qs : List QueueState)
+    (command : Command) → length on ≤ k → is_of_queue command ≡ false
+    → Drives on page_size ws ws qs qs (call_of k command gives.NoHandle ∷ [])
+no_number on page_size ws k qs command past mine =
+    missing on page_size ws k qs command (λ d ws_is qs_is. inr (inl (nowhere on k past))) mine
+
+pub no_queue : (on : List ℕ) (page_size : ℕ) (ws : List ChainHandle) (k : ℕ) (qs : List QueueState)
+    (command : Command) → k < length on → length qs ≤ get_or on k 0 → is_of_queue command ≡ false
+    → Drives on page_size ws ws qs qs (call_of k command gives.NoHandle ∷ [])
+no_queue on page_size ws k qs command less past mine =
+    missing on page_size ws k qs command
+    (λ d ws_is qs_is. inr (inr (
+      get_or on k 0,
+      got on k (get_or on k 0) less (number_at on k less),
+      ap (λ (l : List QueueState). slice_get l (get_or on k 0)) qs_is ∙ nowhere qs (get_or on k 0) past,
+    ))) mine
+
+-- no calls
+pub at_none : (on : List ℕ) (page_size : ℕ) (ws : List ChainHandle) (qs : List QueueState) →
+    Drives on page_size ws ws qs qs []
+unfolding Drives
+at_none on page_size ws qs zs is s os pops pushes all =
+    ([], s, os, pops, pushes, refl, all, by_list zs is)
+  where
+    by_list : (l : List Seen) → seen_of l ≡ [] →
+        ReportsAll on page_size (desk s ws qs os pops pushes) l [] (desk s ws qs os pops pushes)
+    by_list [] none = (refl, refl)
+    by_list (z ∷ l) none = absurd (none_some z.0 (seen_of l) (sym none))
+
 -- ---- the loop
 
 -- the calls so far, and the commands that are left
-pub record SoFar (page_size : ℕ) (ws0 ws : List ChainHandle) (q0 q : QueueState) (ks : List ℕ)
+pub record SoFar (on : List ℕ) (page_size : ℕ) (ws0 ws : List ChainHandle) (q0 q : List QueueState) (ks : List ℕ)
     (before now : List Command) (rs : List Returned) (n : ℕ) : Type 0 where
-  pub drives : Drives page_size ws0 ws q0 q (calls_of (take n ks) (take n before) (take n rs))
+  pub drives : Drives on page_size ws0 ws q0 q (calls_of (take n ks) (take n before) (take n rs))
   pub left : drop n now ≡ drop n before
   pub whole : length now ≡ length before
 
-pub none_so_far : (page_size : ℕ) (ws : List ChainHandle) (q : QueueState) (ks : List ℕ)
+pub none_so_far : (on : List ℕ) (page_size : ℕ) (ws : List ChainHandle) (q : List QueueState) (ks : List ℕ)
     (commands : List Command) (rs : List Returned) →
-    SoFar page_size ws ws q q ks commands commands rs 0
-none_so_far page_size ws q ks commands rs =
-    record { drives = at_none page_size ws q; left = refl; whole = refl }
+    SoFar on page_size ws ws q q ks commands commands rs 0
+none_so_far on page_size ws q ks commands rs =
+    record { drives = at_none on page_size ws q; left = refl; whole = refl }
 
 one_more : (ks : List ℕ) (before now : List Command) (rs : List Returned) (n k : ℕ) (x : Command)
     (r : Returned) → n < length ks → n < length now → n < length rs → k ≡ get_or ks n k → x ≡ get_or now n x
@@ -143,30 +197,24 @@ set_length : (now : List Command) (n : ℕ) (y : Command) → length (slice_set 
 set_length (b ∷ now) (suc n) y = ap suc (set_length now n y)
 set_length _ _ y = refl
 
-pub more_so_far : (page_size : ℕ) (ws0 ws ws' : List ChainHandle) (q0 q q' : QueueState) (ks : List ℕ)
+pub more_so_far : (on : List ℕ) (page_size : ℕ) (ws0 ws ws' : List ChainHandle) (q0 q q' : List QueueState) (ks : List ℕ)
     (before now : List Command) (rs : List Returned) (n k : ℕ) (x y : Command) (r : Returned)
-    → SoFar page_size ws0 ws q0 q ks before now rs n
+    → SoFar on page_size ws0 ws q0 q ks before now rs n
     → n < length ks → n < length now → n < length rs → k ≡ get_or ks n k → x ≡ get_or now n x
-    → Drives page_size ws ws' q q' (call_of k x r ∷ [])
-    → SoFar page_size ws0 ws' q0 q' ks before (slice_set now n y) (slice_set rs n r) (n + 1)
-more_so_far page_size ws0 ws ws' q0 q q' ks before now rs n k x y r so in_ks in_now in_rs is_k is_x one =
+    → Drives on page_size ws ws' q q' (call_of k x r ∷ [])
+    → SoFar on page_size ws0 ws' q0 q' ks before (slice_set now n y) (slice_set rs n r) (n + 1)
+more_so_far on page_size ws0 ws ws' q0 q q' ks before now rs n k x y r so in_ks in_now in_rs is_k is_x one =
     let next : suc n ≡ n + 1 = omega arith in
-    let more : SoFar page_size ws0 ws' q0 q' ks before (slice_set now n y) (slice_set rs n r) (suc n) = record {
-      drives = subst (λ (l : List Called). Drives page_size ws0 ws' q0 q' l)
+    let more : SoFar on page_size ws0 ws' q0 q' ks before (slice_set now n y) (slice_set rs n r) (suc n) = record {
+      drives = subst (λ (l : List Called). Drives on page_size ws0 ws' q0 q' l)
           (sym (one_more ks before now rs n k x r in_ks in_now in_rs is_k is_x so.left so.whole))
-          (carries_on page_size ws0 ws ws' q0 q q' (calls_of (take n ks) (take n before) (take n rs))
+          (carries_on on page_size ws0 ws ws' q0 q q' (calls_of (take n ks) (take n before) (take n rs))
           (call_of k x r ∷ []) so.drives one);
       left = left_then before now n y so.left so.whole;
       whole = set_length now n y ∙ so.whole;
     } in
-    subst (λ (m : ℕ). SoFar page_size ws0 ws' q0 q' ks before (slice_set now n y) (slice_set rs n r) m) next
+    subst (λ (m : ℕ). SoFar on page_size ws0 ws' q0 q' ks before (slice_set now n y) (slice_set rs n r) m) next
     more
-
--- a number at an index within a list
-pub number_at : (ks : List ℕ) (n : ℕ) → n < length ks → get_or ks n 0 ≡ get_or ks n (get_or ks n 0)
-number_at [] n less = absurd (omega arith)
-number_at (k ∷ ks) zero less = refl
-number_at (k ∷ ks) (suc n) less = let more : n < length ks = omega arith in number_at ks n more
 
 -- once one of the lists ends
 all_taken : (ks : List ℕ) (cs : List Command) (rs : List Returned) (n : ℕ)
@@ -189,13 +237,13 @@ all_taken (k ∷ ks) (c ∷ cs) (r ∷ rs) (suc n) (inr (inr past)) =
     ap (λ (l : List Called). call_of k c r ∷ l) (all_taken ks cs rs n (inr (inr less)))
 all_taken _ _ _ _ past = refl
 
-pub all_so_far : (page_size : ℕ) (ws0 ws : List ChainHandle) (q0 q : QueueState) (ks : List ℕ)
+pub all_so_far : (on : List ℕ) (page_size : ℕ) (ws0 ws : List ChainHandle) (q0 q : List QueueState) (ks : List ℕ)
     (before now : List Command) (rs : List Returned) (n : ℕ)
-    → SoFar page_size ws0 ws q0 q ks before now rs n
+    → SoFar on page_size ws0 ws q0 q ks before now rs n
     → (length ks ≤ n) ⊎ ((length now ≤ n) ⊎ (length rs ≤ n))
-    → Drives page_size ws0 ws q0 q (calls_of ks before rs)
-all_so_far page_size ws0 ws q0 q ks before now rs n so past =
-    subst (λ (l : List Called). Drives page_size ws0 ws q0 q l) (all_taken ks before rs n (by_end past))
+    → Drives on page_size ws0 ws q0 q (calls_of ks before rs)
+all_so_far on page_size ws0 ws q0 q ks before now rs n so past =
+    subst (λ (l : List Called). Drives on page_size ws0 ws q0 q l) (all_taken ks before rs n (by_end past))
     so.drives
   where
     by_end : (length ks ≤ n) ⊎ ((length now ≤ n) ⊎ (length rs ≤ n))
@@ -208,20 +256,20 @@ all_so_far page_size ws0 ws q0 q ks before now rs n so past =
 
 -- free handles over the run's memory, while no chain is in flight
 pub starts : BeginsDriven
-starts s i page_size q ws none queue page small free =
+starts s on page_size qs ws none queues page small free =
     record {
       all = record { chains = none; held = tt; once = tt };
-      queue = queue;
+      queues = queues;
       page = page;
       small = small;
       mine = λ k w c there m. absurd m;
       outs = λ k w there out. absurd (not_free (is_out w.state) out (ap is_out (free k w there).0));
-      fits = λ k w there. (
+      fits = λ k w i q there number queue. (
         (free k w there).1,
         (free k w there).2,
         idle_may s.limit q no_pop w (free k w there).0,
       );
       left = λ c m. absurd m;
-      still = λ pushing. refl;
-      counts = λ few small. zero-le;
+      still = λ i q there pushing. refl;
+      counts = λ i q there few small. zero-le;
     }

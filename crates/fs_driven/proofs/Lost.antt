@@ -1,6 +1,6 @@
 -- A handle is freed: its chain stays in flight, without a handle.
 use Rattle.std.proofs.Common.{inl, inr, ◌≡◌, ◌⊎◌, ℕ, Bool, true, false, List, [], ◌∷◌, ◌++◌, Option, Some, None}
-use Rattle.std.proofs.Common.{◌≤◌, arith, length, refl, subst, suc, sym, ap, ◌∙◌, slice_get}
+use Rattle.std.proofs.Common.{◌≤◌, arith, refl, subst, suc, sym, ap, ◌∙◌, slice_get}
 use Rattle.std.proofs.lemmas.List.{map-append}
 use Rattle.fs_regions.specs.Places.{places_in}
 use Rattle.live_machine.specs.Live.{Abandons, InFlightChain, abandoned_chain, after_abandoning}
@@ -18,12 +18,16 @@ use Rattle.fs_chain.specs.declared.state.ChainState as state
 use Rattle.fs_chain.specs.declared.state.ChainState.TheVariants as at
 use Rattle.fs_driven.specs.declared.commands.Command.TheVariants as does
 use Rattle.fs_driven.specs.declared.commands.Returned.TheVariants as gives
-use Rattle.fs_driven.specs.Desks.{Begun, Driven, FitsRun, HasInFlight, In, IsLost, Leads, MayPop, desk, lost, no_pop, own, with_pop}
+use Rattle.fs_driven.specs.Desks.{Begun, Driven, FitsRun, HasInFlight, In, IsLost, MayPop, lost, no_pop, number_of, own}
+use Rattle.fs_driven.specs.Desks.{with_pop, with_push, with_queue}
 use Rattle.fs_driven.specs.Reported.{AbandonReports, DrivesOne, Reports, turn}
 use Rattle.fs_chain.proofs.Together.{chains_of}
-use Rattle.fs_driven.proofs.Counts.{with_other}
-use Rattle.fs_driven.proofs.Handles.{Moves, among, has_own, here, idles, leaves, not_lost, others_same, put}
+use Rattle.fs_driven.proofs.Counts.{number_other}
+use Rattle.fs_driven.proofs.Among.{among, here, not_lost, put}
+use Rattle.fs_driven.proofs.Handles.{Moves, each_queue, has_own, idles, leaves, others_same}
 use Rattle.fs_driven.proofs.Calls.{stays_put}
+use Rattle.fs_driven.proofs.Spots.{DrivenAt, DrivesAt, LeadsAt, Spot, desk_after, desk_before, drives_one}
+use Rattle.live_machine.proofs.Queues.{there_same}
 
 -- ---- one more chain without a handle
 
@@ -47,12 +51,13 @@ amid_chains s ob oh c = record s { chains = chains_of ob ++ c ∷ chains_of oh }
 abbrev without_it : Machine → (ob oh : List Owned) → Machine
 without_it s ob oh = record s { chains = chains_of ob ++ chains_of oh }
 
-loses : (s : Machine) (i page_size : ℕ) (q : QueueState) (ws : List ChainHandle) (ob oh : List Owned)
-    (c : InFlightChain) (pops : ℕ → Pop) (push : Option Begun)
-    → Driven (without_it s ob oh) i page_size q ws (ob ++ oh) pops push → IsLost i c
-    → HasInFlight (live_of q) (length (ob ++ lost c ∷ oh))
-    → Driven (amid_chains s ob oh c) i page_size q ws (ob ++ lost c ∷ oh) pops push
-loses s i page_size q ws ob oh c pops push all is_lost counts =
+loses : (s : Machine) (on : List ℕ) (page_size : ℕ) (qs : List QueueState) (ws : List ChainHandle)
+    (ob oh : List Owned) (c : InFlightChain) (pops : ℕ → Pop) (pushes : ℕ → Option Begun)
+    → Driven (without_it s ob oh) on page_size qs ws (ob ++ oh) pops pushes → IsLost qs c
+    → ((i : ℕ) (q : QueueState) → slice_get qs i ≡ Some q →
+    HasInFlight (live_of q) (number_of i (ob ++ lost c ∷ oh)))
+    → Driven (amid_chains s ob oh c) on page_size qs ws (ob ++ lost c ∷ oh) pops pushes
+loses s on page_size qs ws ob oh c pops pushes all is_lost counts =
     let held = all.all.held in
     record {
       all = record {
@@ -62,7 +67,7 @@ loses s i page_size q ws ob oh c pops push all is_lost counts =
             (tt, all_right (λ (o : Owned). IsHeldBy s.page_size ws o.handle o.chain) ob oh held);
         once = once_more c ob oh all.all.once;
       };
-      queue = all.queue;
+      queues = all.queues;
       page = all.page;
       small = all.small;
       mine = λ j v d there m. all.mine j v d there (its j d (among ob oh (lost c) (own j d) m));
@@ -79,8 +84,8 @@ loses s i page_size q ws ob oh c pops push all is_lost counts =
     its j d (inl e) = absurd (not_lost j c d (sym e))
     its j d (inr m) = m
 
-    each : (d : InFlightChain) → (lost d ≡ lost c) ⊎ In (lost d) (ob ++ oh) → IsLost i d
-    each d (inl e) = subst (λ (o : Owned). IsLost i o.chain) (sym e) is_lost
+    each : (d : InFlightChain) → (lost d ≡ lost c) ⊎ In (lost d) (ob ++ oh) → IsLost qs d
+    each d (inl e) = subst (λ (o : Owned). IsLost qs o.chain) (sym e) is_lost
     each d (inr m) = all.left d m
 
 one_less : (n m : ℕ) → suc n ≤ m → n ≤ m
@@ -99,76 +104,98 @@ fits_free s q p old new free regions limit was = (
 )
 
 -- the next push is stored where it was, and no handle's push ends
-abandoned_moves : (s : Machine) (i page_size k : ℕ) (q : QueueState) (ws : List ChainHandle) (os : List Owned)
+abandoned_moves : (s : Machine) (i : Spot) (page_size k : ℕ) (q : QueueState) (ws : List ChainHandle) (os : List Owned)
     (pops : ℕ → Pop) (push : Option Begun) (old new : ChainHandle) (chains : List InFlightChain)
-    → Driven s i page_size q ws os pops push → slice_get ws k ≡ Some old → IsFreed old new
+    → DrivenAt s i page_size k q ws os pops push → slice_get ws k ≡ Some old → IsFreed old new
     → Moves s (record s { chains = chains }) i page_size k q q no_pop push push new
 abandoned_moves s i page_size k q ws os pops push old new chains all there freed = record {
   page = refl;
   limit = refl;
   places = refl;
   queue = all.queue;
+  apart = λ j other. refl;
   event = refl;
-  fits = fits_free s q (pops k) old new freed.0.3 freed.0.0.0 freed.0.0.1 (all.fits k old there);
+  fits = fits_free s q (pops k) old new freed.0.3 freed.0.0.0 freed.0.0.1 (all.fits old there);
   others = others_same page_size k q q push (λ head len. refl);
   still = all.still;
 }
 
-pub abandoned : (old new : ChainHandle) (q : QueueState) → IsFreed old new → AbandonsChain new
-    → (page_size : ℕ) → DrivesOne page_size old new q q does.Abandon gives.Abandoned
-unfolding DrivesOne AbandonsChain
-abandoned old new q freed abandons page_size ws k there u s i os pops push all = by_out (is_out old.state) refl
+-- a chain counts as before
+with_lost : (ob oh : List Owned) (k : ℕ) (c c' : InFlightChain) (j : ℕ) (r : QueueState) →
+    HasInFlight (live_of r) (number_of j (ob ++ own k c ∷ oh)) → c.queue ≡ c'.queue →
+    HasInFlight (live_of r) (number_of j (ob ++ lost c' ∷ oh))
+with_lost ob oh k c c' j r counts same =
+    subst (λ (n : ℕ). HasInFlight (live_of r) n) (number_other j ob oh (own k c) (lost c') same) counts
+
+drops : (old new : ChainHandle) (q : QueueState) → IsFreed old new → AbandonsChain new
+    → (page_size : ℕ) → DrivesAt page_size old new q q does.Abandon gives.Abandoned
+unfolding AbandonsChain
+drops old new q freed abandons page_size ws k there u s i os pops push all = by_out (is_out old.state) refl
   where
-    by_out : (b : Bool) → is_out old.state ≡ b → Leads s i page_size q (with_handle ws k new)
-        (λ es d. Reports (turn i page_size k (desk s ws q os pops push) d old new) does.Abandon u gives.Abandoned es)
+    by_out : (b : Bool) → is_out old.state ≡ b → LeadsAt s i page_size q (with_handle ws k new)
+        (λ es d. Reports (turn i.number page_size k (desk_before s i ws os pops) d old new q q) does.Abandon u
+        gives.Abandoned es)
     by_out false none = (
       [],
       s,
       os,
       with_pop pops k no_pop,
-      push,
+      with_push i.pushes i.number push,
       refl,
       idles s s i page_size q q ws os k old new no_pop pops push push all there
           (stays_put s i page_size k q q no_pop push new all.queue refl (λ head len. refl) refl all.still
-          (fits_free s q (pops k) old new freed.0.3 freed.0.0.0 freed.0.0.1 (all.fits k old there)))
+          (fits_free s q (pops k) old new freed.0.3 freed.0.0.0 freed.0.0.1 (all.fits old there)))
           (λ n counts. counts) refl none (ap is_out freed.0.3),
       (
         freed,
         refl,
-        subst (λ (b : Bool). AbandonReports (turn i page_size k (desk s ws q os pops push)
-            (desk s (with_handle ws k new) q os (with_pop pops k no_pop) push) old new) b []) (sym none) refl,
+        subst (λ (b : Bool). AbandonReports (turn i.number page_size k (desk_before s i ws os pops)
+            (desk_after s i (with_handle ws k new) q os (with_pop pops k no_pop) push) old new q q) b []) (sym none)
+            refl,
       ),
     )
     by_out true some =
-        let own_one = all.outs k old there some in
+        let own_one = all.outs old there some in
         let c = own_one.0 in
         let has = has_own s i page_size q ws os k old c pops push all there own_one.1 in
-        let mine = all.mine k old c there own_one.1 in
+        let mine = all.mine old c there own_one.1 in
         let e = abandons s (chains_of has.ob) (chains_of has.oh) c has.chains in
         let after : Machine = after_abandoning s (chains_of has.ob) (chains_of has.oh) c in
         let c' : InFlightChain = abandoned_chain c in
-        let rest : Driven (without_it s has.ob has.oh) i page_size q (with_handle ws k new) (has.ob ++ has.oh)
-        (with_pop pops k no_pop) push =
+        let qs : List QueueState = with_queue i.queues i.number q in
+        let pushes : ℕ → Option Begun = with_push i.pushes i.number push in
+        let rest : Driven (without_it s has.ob has.oh) i.on page_size qs (with_handle ws k new) (has.ob ++ has.oh)
+        (with_pop pops k no_pop) pushes =
         leaves s (without_it s has.ob has.oh) i page_size q q ws has.ob has.oh k old new c no_pop pops push push
         has.driven there (abandoned_moves s i page_size k q ws os pops push old new
         (chains_of has.ob ++ chains_of has.oh) all there freed)
         (λ n counts few small. one_less n (in_flight (live_of q)) (counts few small))
-        refl (ap is_out freed.0.3) in (
+        refl (ap is_out freed.0.3) in
+        let there_now : slice_get qs c.queue ≡ Some q =
+        there_same i.queues i.number c.queue (λ _. q) q (sym mine.0)
+        (ap (λ (n : ℕ). slice_get i.queues n) mine.0 ∙ all.there) in (
           Abandons c ∷ [],
           after,
           has.ob ++ lost c' ∷ has.oh,
           with_pop pops k no_pop,
-          push,
+          pushes,
           (after, e.0, refl),
-          loses s i page_size q (with_handle ws k new) has.ob has.oh c' (with_pop pops k no_pop) push rest
-              (mine.0, fault_of_phase c.phase, refl)
-              (subst (λ (n : ℕ). HasInFlight (live_of q) n) (with_other has.ob has.oh (own k c) (lost c')) has.driven.counts),
+          loses s i.on page_size qs (with_handle ws k new) has.ob has.oh c' (with_pop pops k no_pop) pushes rest
+              (q, there_now, fault_of_phase c.phase, refl)
+              (each_queue i.queues i.number q q
+              (λ j r. HasInFlight (live_of r) (number_of j (has.ob ++ lost c' ∷ has.oh))) all.there
+              (with_lost has.ob has.oh k c c' i.number q (has.driven.whole.counts i.number q all.there) refl)
+              (λ j r apart is. with_lost has.ob has.oh k c c' j r (has.driven.whole.counts j r is) refl)),
           (
             freed,
             refl,
-            subst (λ (b : Bool). AbandonReports (turn i page_size k (desk s ws q os pops push)
-                (desk after (with_handle ws k new) q (has.ob ++ lost c' ∷ has.oh) (with_pop pops k no_pop) push)
-                old new) b (Abandons c ∷ [])) (sym some)
+            subst (λ (b : Bool). AbandonReports (turn i.number page_size k (desk_before s i ws os pops)
+                (desk_after after i (with_handle ws k new) q (has.ob ++ lost c' ∷ has.oh) (with_pop pops k no_pop) push)
+                old new q q) b (Abandons c ∷ [])) (sym some)
                 (c, own_one.1, refl, here has.ob has.oh (lost c')),
           ),
         )
+
+pub abandoned : (old new : ChainHandle) (q : QueueState) → IsFreed old new → AbandonsChain new
+    → (page_size : ℕ) → DrivesOne page_size old new q q does.Abandon gives.Abandoned
+abandoned old new q freed abandons page_size = drives_one _ _ (drops old new q freed abandons page_size)

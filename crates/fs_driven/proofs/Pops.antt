@@ -35,7 +35,7 @@ use Rattle.fs_regions.specs.declared.walk.QueueWalk.{QueueWalk}
 use Rattle.plain_machine.specs.Step.{faulty}
 use Rattle.live_machine.specs.Several as several
 use Rattle.live_machine.specs.Live.{EndsPop, RefusesPop, after_pop, new_chain, phase_by, with_live}
-use Rattle.live_machine.proofs.Queues.{same_some, there_same}
+use Rattle.live_machine.proofs.Queues.{same_some, there_other, there_same}
 use Rattle.fs_chain.specs.Holds.{BeginsAPop, ContinuesAPop, EndsBy, HasPopped, PopIs, PopsBy, RefusedBy}
 use Rattle.fs_chain.specs.declared.loads.LoadOutcome as outcome
 use Rattle.fs_chain.specs.declared.loads.LoadOutcome.TheVariants as outcomes
@@ -50,7 +50,7 @@ use Rattle.live_machine.specs.Live.{EndsPopIn, InFlightChain, LiveEvent}
 use Rattle.live_machine.specs.Live.{Phase}
 use Rattle.live_machine.specs.Live.{PushedWith}
 use Rattle.live_machine.specs.Live.{Happens}
-use Rattle.fs_driven.specs.Desks.{Begun, Desk, Driven, FitsRun, IsReady, Leads, MayPop, desk, no_pop, own, with_pop}
+use Rattle.fs_driven.specs.Desks.{Begun, Desk, FitsRun, IsReady, MayPop, no_pop, own, with_pop, with_push}
 use Rattle.fs_driven.specs.Reported.{DrivesOne, IsLoadedBy, PopReports, Reports, Turn, turn}
 use Rattle.fs_driven.specs.Preserved.{KeepsMemory}
 use Rattle.fs_chain.specs.Holds.{IsHeldIn, IsQueue}
@@ -68,6 +68,7 @@ use Rattle.fs_driven.proofs.Counts.{refused_counts, same_count, took_counts}
 use Rattle.fs_driven.proofs.Handles.{Moves, SamePlaces, held_out, idles, joins, others_same}
 use Rattle.fs_driven.proofs.Calls.{HasNoPush, fetched_ready, fits_out, refuses, stays_put}
 use Rattle.fs_driven.proofs.Calls.{still}
+use Rattle.fs_driven.proofs.Spots.{DrivenAt, DrivesAt, LeadsAt, Spot, desk_after, desk_before, drives_one}
 
 pub idle_may : (limit : ℕ) (q : QueueState) (p : Pop) (w : ChainHandle) → w.state ≡ at.Free →
     MayPop limit q p w w.state
@@ -126,66 +127,67 @@ pub record Popping (old new : ChainHandle) (q q' : QueueState) : Type 0 where
   pub quiet : HasNoPush new.state
 
 -- T tells of a pop's events
-abbrev PoppedReports : QueueState → List ChainHandle → Option Begun → List LiveEvent →
+abbrev PoppedReports : Spot → QueueState → List ChainHandle → Option Begun → List LiveEvent →
     (T : List LiveEvent → Desk → Type 0) → Type 0
-PoppedReports q' ws push es T =
-    (after : Machine) (os : List Owned) (pops : ℕ → Pop) → T es (desk after ws q' os pops push)
+PoppedReports i q' ws push es T =
+    (after : Machine) (os : List Owned) (pops : ℕ → Pop) → T es (desk_after after i ws q' os pops push)
 
 still_of : (q q' : QueueState) (push : Option Begun) → q'.pushing ≡ q.pushing →
     (q.pushing ≡ false → push ≡ None) → q'.pushing ≡ false → push ≡ None
 still_of q q' push same still none = still (sym same ∙ none)
 
 -- a pop that ended by itself
-ended : (s : Machine) (i page_size k : ℕ) (q q' : QueueState) (ws : List ChainHandle) (os : List Owned)
+ended : (s : Machine) (i : Spot) (page_size k : ℕ) (q q' : QueueState) (ws : List ChainHandle) (os : List Owned)
     (pops : ℕ → Pop) (push : Option Begun) (old new : ChainHandle) (loaded : Loaded) (came : comes.CourseStep)
     (T : List LiveEvent → Desk → Type 0)
-    → Driven s i page_size q ws os pops push → slice_get ws k ≡ Some old → is_out old.state ≡ false →
+    → DrivenAt s i page_size k q ws os pops push → slice_get ws k ≡ Some old → is_out old.state ≡ false →
     Popping old new q q'
-    → Happens any_files s (EndsPop i loaded new.descriptors.items came)
-    (after_pop s i (live_of q) loaded new.descriptors.items came)
-    → IsQueue (after_pop s i (live_of q) loaded new.descriptors.items came) i q'
-    → HasPopped s i (live_of q) loaded came new
-    → PoppedReports q' (with_handle ws k new) push (EndsPop i loaded new.descriptors.items came ∷ []) T
-    → Leads s i page_size q' (with_handle ws k new) T
+    → Happens any_files s (EndsPop i.number loaded new.descriptors.items came)
+    (after_pop s i.number (live_of q) loaded new.descriptors.items came)
+    → IsQueue (after_pop s i.number (live_of q) loaded new.descriptors.items came) i.number q'
+    → HasPopped s i.number (live_of q) loaded came new
+    → PoppedReports i q' (with_handle ws k new) push (EndsPop i.number loaded new.descriptors.items came ∷ []) T
+    → LeadsAt s i page_size q' (with_handle ws k new) T
 ended s i page_size k q q' ws os pops push old new loaded step.Idle T all there free same happens queue has
     reports =
     let now : live_of q' ≡ live_of q = sym (same_some (live_of q) (live_of q') (sym all.queue ∙ queue)) in (
-      EndsPop i loaded new.descriptors.items step.Idle ∷ [],
+      EndsPop i.number loaded new.descriptors.items step.Idle ∷ [],
       s,
       os,
       with_pop pops k no_pop,
-      push,
+      with_push i.pushes i.number push,
       (s, happens, refl),
       idles s s i page_size q q' ws os k old new no_pop pops push push all there
           (stays_put s i page_size k q q' no_pop push new queue
           (live_index q' _ now)
           (places_of q q' (live_of q) now (λ head len. refl)) same.pushing all.still
           (fits_free s.places s.limit q (pops k) no_pop old new same.memory has
-          (all.fits k old there)))
+          (all.fits old there)))
           (same_count (live_of q) (live_of q') now) refl free (ap is_out has),
       reports s os (with_pop pops k no_pop),
     )
 ended s i page_size k q q' ws os pops push old new loaded (step.Refused e) T all there free same happens queue
     has reports =
-    let after : Machine = after_pop s i (live_of q) loaded new.descriptors.items (step.Refused e) in
+    let after : Machine = after_pop s i.number (live_of q) loaded new.descriptors.items (step.Refused e) in
     let v : LiveQueue = record (live_of q) { queue = after_refusal (live_of q).queue e } in
-    let now : live_of q' ≡ v = queue_now s i q q' v all.queue queue in
+    let now : live_of q' ≡ v = queue_now s i.number q q' v all.queue queue in
     let moves : Moves s after i page_size k q q' no_pop push push new = record {
       page = refl;
       limit = refl;
       places = refl;
       queue = queue;
+      apart = λ j other. there_other s.queues i.number j (λ _. v) other;
       event = live_index q' _ now;
       fits = fits_free s.places s.limit q (pops k) no_pop old new same.memory has
-          (all.fits k old there);
+          (all.fits old there);
       others = others_same page_size k q q' push (places_of q q' v now (refused_places (live_of q) e));
       still = still_of q q' push same.pushing all.still;
     } in (
-      EndsPop i loaded new.descriptors.items (step.Refused e) ∷ [],
+      EndsPop i.number loaded new.descriptors.items (step.Refused e) ∷ [],
       after,
       os,
       with_pop pops k no_pop,
-      push,
+      with_push i.pushes i.number push,
       (after, happens, refl),
       idles s after i page_size q q' ws os k old new no_pop pops push push all there moves
           (λ n counts. same_count v (live_of q') now n (refused_counts (live_of q) e n counts)) refl free (ap is_out has),
@@ -193,10 +195,10 @@ ended s i page_size k q q' ws os pops push old new loaded (step.Refused e) T all
     )
 ended s i page_size k q q' ws os pops push old new loaded (step.Chain head fault) T all there free same happens
     queue has reports =
-    let after : Machine = after_pop s i (live_of q) loaded new.descriptors.items (step.Chain head fault) in
-    let c : InFlightChain = new_chain s i (live_of q) loaded new.descriptors.items head fault in
+    let after : Machine = after_pop s i.number (live_of q) loaded new.descriptors.items (step.Chain head fault) in
+    let c : InFlightChain = new_chain s i.number (live_of q) loaded new.descriptors.items head fault in
     let v : LiveQueue = several.took (live_of q) in
-    let now : live_of q' ≡ v = queue_now s i q q' v all.queue queue in
+    let now : live_of q' ≡ v = queue_now s i.number q q' v all.queue queue in
     let room : IsTrue (may_take (live_of q)) =
     subst (λ (w : LiveQueue). IsTrue (may_take w)) (same_some happens.w (live_of q) (sym happens.there ∙ all.queue))
     happens.room in
@@ -205,17 +207,18 @@ ended s i page_size k q q' ws os pops push old new loaded (step.Chain head fault
       limit = refl;
       places = refl;
       queue = queue;
+      apart = λ j other. there_other s.queues i.number j (λ _. v) other;
       event = live_index q' _ now;
       fits = fits_out s.places s.limit q (pops k) no_pop old new same.memory
-          (held_out s.page_size c c.phase new.state new.session has) (all.fits k old there);
+          (held_out s.page_size c c.phase new.state new.session has) (all.fits old there);
       others = others_same page_size k q q' push (places_of q q' v now (λ head len. refl));
       still = still_of q q' push same.pushing all.still;
     } in (
-      EndsPop i loaded new.descriptors.items (step.Chain head fault) ∷ [],
+      EndsPop i.number loaded new.descriptors.items (step.Chain head fault) ∷ [],
       after,
       os ++ own k c ∷ [],
       with_pop pops k no_pop,
-      push,
+      with_push i.pushes i.number push,
       (after, happens, refl),
       joins s after i page_size q q' ws os k old new c no_pop pops push push all there moves
           (λ n counts. same_count v (live_of q') now (suc n) (took_counts (live_of q) room n counts)) refl free has
@@ -224,40 +227,41 @@ ended s i page_size k q q' ws os pops push old new loaded (step.Chain head fault
     )
 ended s i page_size k q q' ws os pops push old new loaded _ T all there free same happens queue has reports = absurd happens.ends
 
-refused : (s : Machine) (i page_size k : ℕ) (q q' : QueueState) (ws : List ChainHandle) (os : List Owned)
+refused : (s : Machine) (i : Spot) (page_size k : ℕ) (q q' : QueueState) (ws : List ChainHandle) (os : List Owned)
     (pops : ℕ → Pop) (push : Option Begun) (old new : ChainHandle) (reported : walked.PopOutcome)
     (T : List LiveEvent → Desk → Type 0)
-    → Driven s i page_size q ws os pops push → slice_get ws k ≡ Some old → is_out old.state ≡ false →
+    → DrivenAt s i page_size k q ws os pops push → slice_get ws k ≡ Some old → is_out old.state ≡ false →
     Popping old new q q'
-    → (r : RefusedBy s i q q' new reported)
-    → PoppedReports q' (with_handle ws k new) push (RefusesPop i r.error ∷ []) T
-    → Leads s i page_size q' (with_handle ws k new) T
+    → (r : RefusedBy s i.number q q' new reported)
+    → PoppedReports i q' (with_handle ws k new) push (RefusesPop i.number r.error ∷ []) T
+    → LeadsAt s i page_size q' (with_handle ws k new) T
 refused s i page_size k q q' ws os pops push old new reported T all there free same r reports =
     let h = r.happens in
     let v : LiveQueue = record (h.w) { queue = after_refusal h.w.queue r.error } in
     let w_is : h.w ≡ live_of q = same_some h.w (live_of q) (sym h.there ∙ all.queue) in
-    let after : Machine = with_live s i v in
-    let queue : IsQueue after i q' = subst (λ (m : Machine). IsQueue m i q') h.state r.queue in
-    let now : live_of q' ≡ v = queue_now s i q q' v all.queue queue in
+    let after : Machine = with_live s i.number v in
+    let queue : IsQueue after i.number q' = subst (λ (m : Machine). IsQueue m i.number q') h.state r.queue in
+    let now : live_of q' ≡ v = queue_now s i.number q q' v all.queue queue in
     let moves : Moves s after i page_size k q q' no_pop push push new = record {
       page = refl;
       limit = refl;
       places = refl;
       queue = queue;
+      apart = λ j other. there_other s.queues i.number j (λ _. v) other;
       event = live_index q' (record (live_of q) { queue = after_refusal (live_of q).queue r.error })
           (now ∙ ap (λ (l : LiveQueue). record l { queue = after_refusal l.queue r.error }) w_is);
       fits = fits_free s.places s.limit q (pops k) no_pop old new same.memory r.free
-          (all.fits k old there);
+          (all.fits old there);
       others = others_same page_size k q q' push (places_of q q' v now
           (λ head len. refused_places h.w r.error head len
           ∙ ap (λ (l : LiveQueue). stores_after_reply (returning l) head len) w_is));
       still = still_of q q' push same.pushing all.still;
     } in (
-      RefusesPop i r.error ∷ [],
+      RefusesPop i.number r.error ∷ [],
       after,
       os,
       with_pop pops k no_pop,
-      push,
+      with_push i.pushes i.number push,
       (r.after, h, sym h.state),
       idles s after i page_size q q' ws os k old new no_pop pops push push all there moves
           (λ n counts. same_count v (live_of q') now n (refused_counts h.w r.error n
@@ -285,64 +289,63 @@ ends_tell t s after q loaded (step.Chain head (Some fault)) reported is ends =
 ends_tell t s after q loaded _ reported is ends = absurd ends
 
 -- T tells of what a pop tells
-abbrev GivesPop : (i page_size k : ℕ) → Desk → QueueState → (old new : ChainHandle) → Loaded →
-    walked.PopOutcome → (T : List LiveEvent → Desk → Type 0) → Type 0
-GivesPop i page_size k d q' old new loaded reported T =
+abbrev GivesPop : Spot → (page_size k : ℕ) → Desk → (q q' : QueueState) → Option Begun →
+    (old new : ChainHandle) → Loaded → walked.PopOutcome → (T : List LiveEvent → Desk → Type 0) → Type 0
+GivesPop i page_size k d q q' push old new loaded reported T =
     (after : Machine) (os : List Owned) (pops : ℕ → Pop) (es : List LiveEvent) →
-    PopReports (turn i page_size k d (desk after (with_handle d.handles k new) q' os pops d.push) old new) loaded
-    reported es →
-    T es (desk after (with_handle d.handles k new) q' os pops d.push)
+    let d' : Desk = desk_after after i (with_handle d.handles k new) q' os pops push in
+    PopReports (turn i.number page_size k d d' old new q q') loaded reported es → T es d'
 
-ends_or_refused : (s : Machine) (i page_size k : ℕ) (q q' : QueueState) (ws : List ChainHandle)
+ends_or_refused : (s : Machine) (i : Spot) (page_size k : ℕ) (q q' : QueueState) (ws : List ChainHandle)
     (os : List Owned) (pops : ℕ → Pop) (push : Option Begun) (old new : ChainHandle) (loaded : Loaded)
     (reported : walked.PopOutcome) (T : List LiveEvent → Desk → Type 0)
-    → Driven s i page_size q ws os pops push → slice_get ws k ≡ Some old → is_out old.state ≡ false →
+    → DrivenAt s i page_size k q ws os pops push → slice_get ws k ≡ Some old → is_out old.state ≡ false →
     Popping old new q q'
-    → GivesPop i page_size k (desk s ws q os pops push) q' old new loaded reported T
-    → EndsBy s i q q' loaded new reported ⊎ RefusedBy s i q q' new reported
-    → Leads s i page_size q' (with_handle ws k new) T
+    → GivesPop i page_size k (desk_before s i ws os pops) q q' push old new loaded reported T
+    → EndsBy s i.number q q' loaded new reported ⊎ RefusedBy s i.number q q' new reported
+    → LeadsAt s i page_size q' (with_handle ws k new) T
 ends_or_refused s i page_size k q q' ws os pops push old new loaded reported T all there free same give (inl e) =
     ended s i page_size k q q' ws os pops push old new loaded e.came T all there free same e.happens e.queue
     e.has
-    (λ after os' loads'. give after os' loads' (EndsPop i loaded new.descriptors.items e.came ∷ [])
-    (ends_tell (turn i page_size k (desk s ws q os pops push)
-    (desk after (with_handle ws k new) q' os' loads' push) old new) s
-    (after_pop s i (live_of q) loaded new.descriptors.items e.came) e.happens.w loaded e.came reported e.reported_is
+    (λ after os' loads'. give after os' loads' (EndsPop i.number loaded new.descriptors.items e.came ∷ [])
+    (ends_tell (turn i.number page_size k (desk_before s i ws os pops)
+    (desk_after after i (with_handle ws k new) q' os' loads' push) old new q q') s
+    (after_pop s i.number (live_of q) loaded new.descriptors.items e.came) e.happens.w loaded e.came reported e.reported_is
     e.happens.ends))
 ends_or_refused s i page_size k q q' ws os pops push old new loaded reported T all there free same give (inr r) =
     refused s i page_size k q q' ws os pops push old new reported T all there free same r
-    (λ after os' loads'. give after os' loads' (RefusesPop i r.error ∷ [])
-    (subst (λ (x : walked.PopOutcome). PopReports (turn i page_size k (desk s ws q os pops push)
-    (desk after (with_handle ws k new) q' os' loads' push) old new) loaded x (RefusesPop i r.error ∷ []))
+    (λ after os' loads'. give after os' loads' (RefusesPop i.number r.error ∷ [])
+    (subst (λ (x : walked.PopOutcome). PopReports (turn i.number page_size k (desk_before s i ws os pops)
+    (desk_after after i (with_handle ws k new) q' os' loads' push) old new q q') loaded x (RefusesPop i.number r.error ∷ []))
     (sym r.reported_is) (inr refl)))
 
 with_pop_same : (pops : ℕ → Pop) (k : ℕ) (p : Pop) → with_pop pops k p k ≡ p
 with_pop_same pops k p = ap (λ (b : Bool). if b then p else pops k) (eq-eqb k k refl)
 
-pub popped : (s : Machine) (i page_size k : ℕ) (q q' : QueueState) (ws : List ChainHandle) (os : List Owned)
+pub popped : (s : Machine) (i : Spot) (page_size k : ℕ) (q q' : QueueState) (ws : List ChainHandle) (os : List Owned)
     (pops : ℕ → Pop) (push : Option Begun) (old new : ChainHandle) (p : Pop) (reported : walked.PopOutcome)
     (T : List LiveEvent → Desk → Type 0)
-    → Driven s i page_size q ws os pops push → slice_get ws k ≡ Some old → is_out old.state ≡ false →
+    → DrivenAt s i page_size k q ws os pops push → slice_get ws k ≡ Some old → is_out old.state ≡ false →
     Popping old new q q'
     → IsPopOf q p
-    → GivesPop i page_size k (desk s ws q os pops push) q' old new p.loaded reported T
-    → PopIs s i q q' p new reported
-    → Leads s i page_size q' (with_handle ws k new) T
+    → GivesPop i page_size k (desk_before s i ws os pops) q q' push old new p.loaded reported T
+    → PopIs s i.number q q' p new reported
+    → LeadsAt s i page_size q' (with_handle ws k new) T
 popped s i page_size k q q' ws os pops push old new p (shows.Load n) T all there free same event give is =
     still s i page_size k q q' ws os pops push old new p T all there free same.memory event is
     (give s os (with_pop pops k p) [] (refl, ap (λ (x : Pop). x.loaded) (with_pop_same pops k p)))
 popped s i page_size k q q' ws os pops push old new p (shows.Missing range access) T all there free same event
     give is =
-    let was = all.fits k old there in (
+    let was = all.fits old there in (
       [],
       s,
       os,
       with_pop pops k no_pop,
-      push,
+      with_push i.pushes i.number push,
       refl,
       idles s s i page_size q q' ws os k old new no_pop pops push push all there
           (stays_put s i page_size k q q' no_pop push new
-          (subst (λ (r : QueueState). IsQueue s i r) (sym is.1) all.queue)
+          (subst (λ (r : QueueState). IsQueue s i.number r) (sym is.1) all.queue)
           (same_index q' _ is.1)
           (λ head len. ap (λ (r : QueueState). stores_after_reply (returning (live_of r)) head len) is.1)
           same.pushing all.still
@@ -357,29 +360,29 @@ popped s i page_size k q q' ws os pops push old new p reported T all there free 
 abbrev PopReported : (page_size : ℕ) → (old new : ChainHandle) → (q q' : QueueState) → Bor (List ℕ) →
     outcome.LoadOutcome → Type 0
 PopReported page_size old new q q' bytes reported =
-    DrivesOne page_size old new q q' (does.Pop bytes) (gives.Popped (Ok reported))
+    DrivesAt page_size old new q q' (does.Pop bytes) (gives.Popped (Ok reported))
 
 begins : (page_size : ℕ) (old new : ChainHandle) (q q' : QueueState) (bytes : Bor (List ℕ))
     (reported : outcome.LoadOutcome) → old.state ≡ at.Free
     → ProceedsSo old q bytes.now reported new q'
     → BeginsAPop old new q q' reported → Popping old new q q' → PopReported page_size old new q q' bytes reported
-unfolding DrivesOne BeginsAPop
+unfolding BeginsAPop
 begins page_size old new q q' bytes outcomes.Part free proceeds begin same ws k there u s i os pops push all =
     absurd begin
 begins page_size old new q q' bytes (outcomes.On reported) free proceeds begin same ws k there u s i os pops push all =
-    let was = all.fits k old there in
+    let was = all.fits old there in
     let loads : (after : Desk) → IsLoadedBy old.state
-    (turn i page_size k (desk s ws q os pops push) after old new) bytes.now reported nothing =
+    (turn i.number page_size k (desk_before s i ws os pops) after old new q q') bytes.now reported nothing =
     λ after. subst (λ (st : state.ChainState). IsLoadedBy st
-    (turn i page_size k (desk s ws q os pops push) after old new) bytes.now reported nothing) (sym free) refl in
+    (turn i.number page_size k (desk_before s i ws os pops) after old new q q') bytes.now reported nothing) (sym free) refl in
     popped s i page_size k q q' ws os pops push old new
     (pop_of q nothing) reported
-    (λ es d. Reports (turn i page_size k (desk s ws q os pops push) d old new) (does.Pop bytes) u
+    (λ es d. Reports (turn i.number page_size k (desk_before s i ws os pops) d old new q q') (does.Pop bytes) u
     (gives.Popped (Ok (outcomes.On reported))) es)
     all there (ap is_out free) same refl
     (λ after os' loads' es reports.
-    (proceeds, nothing, loads (desk after (with_handle ws k new) q' os' loads' push), reports))
-    (begin s i all.queue was.0 was.1 all.small)
+    (proceeds, nothing, loads (desk_after after i (with_handle ws k new) q' os' loads' push), reports))
+    (begin s i.number all.queue was.0 was.1 all.small)
 
 continues : (page_size : ℕ) (old new : ChainHandle) (q q' : QueueState) (bytes : Bor (List ℕ))
     (reported : outcome.LoadOutcome) (course : Course) (pop_id : PopId) (walk : QueueWalk) →
@@ -387,36 +390,36 @@ continues : (page_size : ℕ) (old new : ChainHandle) (q q' : QueueState) (bytes
     → ProceedsSo old q bytes.now reported new q'
     → ContinuesAPop old new q q' bytes.now reported → Popping old new q q' →
     PopReported page_size old new q q' bytes reported
-unfolding DrivesOne ContinuesAPop
+unfolding ContinuesAPop
 continues page_size old new q q' bytes outcomes.Part course pop_id walk is proceeds go same ws k there u s i os pops
     push all =
-    let was = all.fits k old there in
+    let was = all.fits old there in
     let may = subst (λ (st : state.ChainState). MayPop s.limit q (pops k) old st) is was.2 in
     still s i page_size k q q' ws os pops push old new (pops k)
-    (λ es d. Reports (turn i page_size k (desk s ws q os pops push) d old new) (does.Pop bytes) u
+    (λ es d. Reports (turn i.number page_size k (desk_before s i ws os pops) d old new q q') (does.Pop bytes) u
     (gives.Popped (Ok outcomes.Part)) es)
     all there (ap is_out is) same.memory may.1
-    (go s i (pops k) may.0 all.queue was.0 may.1 all.small)
+    (go s i.number (pops k) may.0 all.queue was.0 may.1 all.small)
     (refl, proceeds)
 continues page_size old new q q' bytes (outcomes.On reported) course pop_id walk is proceeds go same ws k there u s i os
     pops push all =
-    let was = all.fits k old there in
+    let was = all.fits old there in
     let may = subst (λ (st : state.ChainState). MayPop s.limit q (pops k) old st) is was.2 in
-    let on = go s i (pops k) may.0 all.queue was.0 may.1 all.small in
+    let on = go s i.number (pops k) may.0 all.queue was.0 may.1 all.small in
     let adds : q.stopped ≡ None → AddsSo (at.Walking course pop_id walk) (outcomes.On reported) new.descriptors.items
     (pops k).loaded (whole old bytes.now) on.0 =
     λ carries_on. subst (λ (st : state.ChainState). AddsSo st (outcomes.On reported) new.descriptors.items
     (pops k).loaded (whole old bytes.now) on.0) is (on.1 carries_on) in
     let loads : (after : Desk) → IsLoadedBy old.state
-    (turn i page_size k (desk s ws q os pops push) after old new) bytes.now reported on.0 =
+    (turn i.number page_size k (desk_before s i ws os pops) after old new q q') bytes.now reported on.0 =
     λ after. subst (λ (st : state.ChainState). IsLoadedBy st
-    (turn i page_size k (desk s ws q os pops push) after old new) bytes.now reported on.0) (sym is) adds in
+    (turn i.number page_size k (desk_before s i ws os pops) after old new q q') bytes.now reported on.0) (sym is) adds in
     popped s i page_size k q q' ws os pops push old new (record (pops k) { loaded = on.0 }) reported
-    (λ es d. Reports (turn i page_size k (desk s ws q os pops push) d old new) (does.Pop bytes) u
+    (λ es d. Reports (turn i.number page_size k (desk_before s i ws os pops) d old new q q') (does.Pop bytes) u
     (gives.Popped (Ok (outcomes.On reported))) es)
     all there (ap is_out is) same may.1
     (λ after os' loads' es reports.
-    (proceeds, on.0, loads (desk after (with_handle ws k new) q' os' loads' push), reports))
+    (proceeds, on.0, loads (desk_after after i (with_handle ws k new) q' os' loads' push), reports))
     on.2
 
 -- ---- what a pop keeps
@@ -514,20 +517,20 @@ pop_at : (page_size : ℕ) (old new : ChainHandle) (q q' : QueueState) (bytes : 
     (reported : outcome.LoadOutcome) (st : state.ChainState) →
     old.state ≡ st
     → ProceedsSo old q bytes.now reported new q' → PopsBy st old new q q' bytes.now reported →
-    PopReported page_size old new q q' bytes reported
+    DrivesOne page_size old new q q' (does.Pop bytes) (gives.Popped (Ok reported))
 pop_at page_size old new q q' bytes (outcomes.On reported) at.Free is proceeds by =
     let on = subst (λ (st : state.ChainState). WalksFrom st (whole old bytes.now) old new q q' reported) is proceeds.4
     in
-    begins page_size old new q q' bytes (outcomes.On reported) is proceeds by
-    (begun_keeps old new q q' reported q.stopped is on)
+    drives_one _ _ (begins page_size old new q q' bytes (outcomes.On reported) is proceeds by
+    (begun_keeps old new q q' reported q.stopped is on))
 pop_at page_size old new q q' bytes outcomes.Part (at.Walking course pop_id walk) is proceeds by =
-    continues page_size old new q q' bytes outcomes.Part course pop_id walk is proceeds by
-    (part_keeps old new q q' bytes.now course pop_id walk is proceeds)
+    drives_one _ _ (continues page_size old new q q' bytes outcomes.Part course pop_id walk is proceeds by
+    (part_keeps old new q q' bytes.now course pop_id walk is proceeds))
 pop_at page_size old new q q' bytes (outcomes.On reported) (at.Walking course pop_id walk) is proceeds by =
     let on = subst (λ (st : state.ChainState). WalksFrom st (whole old bytes.now) old new q q' reported) is proceeds.4
     in
-    continues page_size old new q q' bytes (outcomes.On reported) course pop_id walk is proceeds by
-    (gone_keeps old new q q' (whole old bytes.now) reported course pop_id walk q.stopped on)
+    drives_one _ _ (continues page_size old new q q' bytes (outcomes.On reported) course pop_id walk is proceeds by
+    (gone_keeps old new q q' (whole old bytes.now) reported course pop_id walk q.stopped on))
 pop_at page_size old new q q' bytes (outcomes.On reported) _ is proceeds by =
     absurd (subst (λ (st : state.ChainState). WalksFrom st (whole old bytes.now) old new q q' reported) is proceeds.4)
 pop_at page_size old new q q' bytes outcomes.Part _ is proceeds by = absurd (no_part old bytes.now proceeds.1 (ap load_len is))
@@ -546,8 +549,4 @@ pop_result old new q q' bytes (Err e) proceeds err same step page_size =
     (sym same.1)
     (refuses page_size old new q (does.Pop bytes) (gives.Popped (Err e))
     (same.0.1, same.0.4, same.0.0.0, same.0.0.1, same.0.2)
-    (λ i k d d' u is now. (
-      refl,
-      (same.0, now ∙ sym is),
-      subst (λ (r : QueueState). RefusesWalk old r bytes.now e) (sym is) err,
-    )))
+    (λ i k d d' u. (refl, (same.0, refl), err)))

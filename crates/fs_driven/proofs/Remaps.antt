@@ -1,6 +1,6 @@
--- New memory drives the run: a handle of it takes regions while no chain is in flight.
-use Rattle.std.proofs.Common.{inl, inr, ◌≡◌, ◌≤◌, ◌<◌, ◌^◌, ℕ, zero, suc, Bool, true, false, List, [], ◌∷◌}
-use Rattle.std.proofs.Common.{Option, Some, None, arith, length, eqb-true, refl, subst, sym, ap, ◌∙◌, ◌==◌, slice_get, zero-le}
+-- New memory drives the run: handles of it take regions while no chain is in flight.
+use Rattle.std.proofs.Common.{inl, ◌≡◌, ◌≤◌, ◌<◌, ◌^◌, ℕ, zero, suc, Bool, true, false, List, [], ◌∷◌}
+use Rattle.std.proofs.Common.{Option, Some, None, arith, length, refl, subst, sym, ap, ◌∙◌, slice_get, zero-le}
 use Rattle.std.specs.Prelude.{Err, IfErr, Ok, OnErr, OnOk, Result, if◌then◌else◌, map}
 use Rattle.std.specs.Borrow.{Bor}
 use Rattle.std.specs.Global.{Global}
@@ -8,12 +8,12 @@ use Rattle.std.specs.List.{AllByRecursion}
 use Rattle.vm_memory.specs.Memory.{Memory}
 use Rattle.vm_memory.specs.Layout.{Region}
 use Rattle.fs_regions.specs.Places.{places_in, untranslated}
-use Rattle.live_machine.specs.Live.{InFlightChain, KeepsQueue, LiveRun, Remaps, RemapsSo}
+use Rattle.live_machine.specs.Live.{InFlightChain, KeepsQueue, Remaps, RemapsSo}
 use Rattle.live_machine.proofs.Queues.{none_some, same_some}
-use Rattle.fs_chain.specs.Holds.{Machine, any_files}
+use Rattle.fs_chain.specs.Holds.{Machine, Pop}
 use Rattle.fs_chain.specs.Orders.{is_out}
 use Rattle.fs_chain.specs.Queues.{in_flight}
-use Rattle.fs_chain.specs.Together.{Owned}
+use Rattle.fs_chain.specs.Together.{IsHeldBy, Owned}
 use Rattle.fs_chain.specs.declared.chain_handle.ChainHandle.{ChainHandle}
 use Rattle.fs_chain.specs.declared.error.ChainError.{ChainError}
 use Rattle.fs_chain.specs.declared.error.ChainError.TheVariants as error
@@ -21,18 +21,69 @@ use Rattle.fs_chain.specs.declared.queue.QueueState.{QueueState}
 use Rattle.fs_chain.specs.declared.state.ChainState.TheVariants as at
 use Rattle.fs_driven.specs.declared.commands.Command.TheVariants as does
 use Rattle.fs_driven.specs.declared.commands.Returned.TheVariants as gives
-use Rattle.fs_driven.specs.Desks.{Desk, Driven, FitsRun, desk}
-use Rattle.fs_driven.specs.NewMemory.{IsErrorOf, TakeMemory, TakesMemory, handles_error, remap_error}
-use Rattle.fs_driven.specs.Reported.{Drives, DrivesOne, ReportsAll, call_of}
+use Rattle.fs_driven.specs.Desks.{Begun, Driven, FitsRun, number_of}
+use Rattle.fs_driven.specs.NewMemory.{HaveNone, IsErrorOf, TakeMemory, TakesMemory, are_idle, handles_error, remap_error}
+use Rattle.fs_driven.specs.Reported.{Drives, DrivesOne, call_of}
 use Rattle.fs_driven.proofs.Calls.{refuses, same_held}
-use Rattle.fs_driven.proofs.Handles.{Seen, not_free}
-use Rattle.fs_driven.proofs.Lists.{single}
+use Rattle.fs_driven.proofs.Counts.{number_one}
+use Rattle.fs_driven.proofs.Handles.{not_free}
 use Rattle.fs_driven.proofs.Pops.{idle_may}
+use Rattle.fs_driven.proofs.Resets.{none_of_queue, one_of_queue}
 
--- a list without elements
-pub none_within : {A : Type 0} (xs : List A) → length xs ≤ 0 → xs ≡ []
-none_within [] few = refl
-none_within {A} (x ∷ xs) few = absurd (omega arith)
+-- ---- no chain is in flight
+
+-- none of a queue is, by its numbers of 16 bits
+abbrev HasNone : QueueState → Type 0
+HasNone q = (in_flight q ≡ 0) × (q.max_in_flight < 2 ^ 16) × (q.next_used < 2 ^ 16)
+
+has_none : (qs : List QueueState) (i : ℕ) (q : QueueState) → HaveNone qs → slice_get qs i ≡ Some q → HasNone q
+has_none [] i q none there = absurd (none_some q there)
+has_none (p ∷ qs) zero q none there =
+    subst (λ (x : QueueState). HasNone x) (same_some p q there) (none.0, none.1, none.2)
+has_none (p ∷ qs) (suc i) q none there = has_none qs i q none.4 there
+
+-- the queue of a run's first chain
+abbrev HasQueue : List QueueState → Owned → Type 0
+HasQueue qs o = (q : QueueState) × (slice_get qs o.chain.queue ≡ Some q)
+
+first_queue : (s : Machine) (on : List ℕ) (page_size : ℕ) (qs : List QueueState) (ws : List ChainHandle) (o : Owned)
+    (os : List Owned) (pops : ℕ → Pop) (pushes : ℕ → Option Begun) (h : Option ℕ)
+    → Driven s on page_size qs ws (o ∷ os) pops pushes → o.handle ≡ h → IsHeldBy s.page_size ws h o.chain
+    → HasQueue qs o
+first_queue s on page_size qs ws o os pops pushes None all is held =
+    let left = all.left o.chain (inl (ap (λ (h : Option ℕ). record { handle = h; chain = o.chain }) (sym is))) in
+    (left.0, left.1)
+first_queue s on page_size qs ws o os pops pushes (Some k) all is held =
+    let mine = all.mine k held.0 o.chain held.1
+    (inl (ap (λ (h : Option ℕ). record { handle = h; chain = o.chain }) (sym is))) in
+    (mine.1, mine.2)
+
+none_owned : (s : Machine) (on : List ℕ) (page_size : ℕ) (qs : List QueueState) (ws : List ChainHandle) (os : List Owned)
+    (pops : ℕ → Pop) (pushes : ℕ → Option Begun) → Driven s on page_size qs ws os pops pushes → HaveNone qs → os ≡ []
+none_owned s on page_size qs ws [] pops pushes all none = refl
+none_owned s on page_size qs ws (o ∷ os) pops pushes all none =
+    let q = first_queue s on page_size qs ws o os pops pushes o.handle all refl all.all.held.0 in
+    let has = has_none qs o.chain.queue q.0 none q.1 in
+    let few : number_of o.chain.queue (o ∷ os) ≤ 0 =
+    subst (λ (n : ℕ). number_of o.chain.queue (o ∷ os) ≤ n) has.0 (all.counts o.chain.queue q.0 q.1 has.1 has.2) in
+    let one = number_one o.chain.queue [] os o refl in
+    absurd (omega (arith, few, one))
+
+-- a run without chains
+pub record Empty (s : Machine) (os : List Owned) : Type 0 where
+  pub owned : os ≡ []
+  pub chains : s.chains ≡ []
+
+pub is_empty : (s : Machine) (on : List ℕ) (page_size : ℕ) (qs : List QueueState) (ws : List ChainHandle) (os : List Owned)
+    (pops : ℕ → Pop) (pushes : ℕ → Option Begun) → Driven s on page_size qs ws os pops pushes → HaveNone qs → Empty s os
+is_empty s on page_size qs ws os pops pushes all none =
+    let owned = none_owned s on page_size qs ws os pops pushes all none in
+    record {
+      owned = owned;
+      chains = all.all.chains ∙ ap (λ (l : List Owned). map (λ (o : Owned). o.chain) l) owned;
+    }
+
+-- ---- handles that take memory
 
 -- a handle that took the memory, and the one in its place before
 pub record Took (regions : List Region) (olds : List ChainHandle) (k : ℕ) (new : ChainHandle) : Type 0 where
@@ -58,133 +109,92 @@ pub is_free : (regions : List Region) (ws ws' : List ChainHandle) (k : ℕ) (new
 is_free regions ws ws' k new takes there =
     let r = took regions ws ws' k new takes there in r.takes.3 ∙ r.takes.0
 
-pub fits_new : (s : Machine) (q : QueueState) (regions : List Region) (ws ws' : List ChainHandle) (i page_size k : ℕ)
-    (new : ChainHandle) (d : Desk)
-    → Driven s i page_size q ws d.owned d.pops d.push → TakeMemory regions ws ws' → slice_get ws' k ≡ Some new
-    → FitsRun (places_in (untranslated regions)) s.limit q (d.pops k) new
-fits_new s q regions ws ws' i page_size k new d all takes there =
+pub fits_new : (s : Machine) (on : List ℕ) (page_size : ℕ) (qs : List QueueState) (ws ws' : List ChainHandle)
+    (os : List Owned) (pops : ℕ → Pop) (pushes : ℕ → Option Begun) (regions : List Region) (k : ℕ) (new : ChainHandle)
+    (i : ℕ) (q q' : QueueState)
+    → Driven s on page_size qs ws os pops pushes → TakeMemory regions ws ws' → slice_get ws' k ≡ Some new
+    → slice_get on k ≡ Some i → slice_get qs i ≡ Some q
+    → FitsRun (places_in (untranslated regions)) s.limit q' (pops k) new
+fits_new s on page_size qs ws ws' os pops pushes regions k new i q q' all takes there number at =
     let r = took regions ws ws' k new takes there in (
       ap places_in (sym r.takes.1),
-      (all.fits k r.old r.there).1 ∙ sym r.takes.2,
-      idle_may s.limit q (d.pops k) new (r.takes.3 ∙ r.takes.0),
+      (all.fits k r.old i q r.there number at).1 ∙ sym r.takes.2,
+      idle_may s.limit q' (pops k) new (r.takes.3 ∙ r.takes.0),
     )
 
-remapped : (ws ws' : List ChainHandle) (q : QueueState) (alloc : Global) (regions : Bor (List Region))
-    → in_flight q ≡ 0 → q.max_in_flight < 2 ^ 16 → q.next_used < 2 ^ 16
-    → remap_error ws q regions.now ≡ None → TakeMemory regions.now ws ws'
-    → (page_size k : ℕ)
-    → Drives page_size ws ws' q q (call_of k (does.Remap alloc regions) (gives.Remapped (Ok tt)) ∷ [])
-unfolding Drives
-remapped ws ws' q alloc regions none_out few small clear takes page_size k zs calls s i os pops push all =
-    let z = single zs (call_of k (does.Remap alloc regions) (gives.Remapped (Ok tt))) calls in
-    let none : os ≡ [] = none_within os (subst (λ (n : ℕ). length os ≤ n) none_out (all.counts few small)) in
-    let empty : s.chains ≡ [] =
-    all.all.chains ∙ ap (λ (l : List Owned). map (λ (o : Owned). o.chain) l) none in
-    let m : Memory = places_in (untranslated regions.now) in
+remapped : (ws ws' : List ChainHandle) (qs : List QueueState) (alloc : Global) (regions : Bor (List Region))
+    → HaveNone qs → remap_error ws qs regions.now ≡ None → TakeMemory regions.now ws ws'
+    → (on : List ℕ) (page_size k : ℕ)
+    → Drives on page_size ws ws' qs qs (call_of k (does.Remap alloc regions) (gives.Remapped (Ok tt)) ∷ [])
+remapped ws ws' qs alloc regions idle clear takes on page_size k =
+    one_of_queue on page_size k ws ws' qs qs (does.Remap alloc regions) (gives.Remapped (Ok tt))
+    (λ s os pops pushes all.
+    let none = is_empty s on page_size qs ws os pops pushes all idle in
     let after : Machine = record s { places = m } in
-    let d : Desk = desk s ws q os pops push in
-    let end : Desk = desk after ws' q [] pops push in
     let e : RemapsSo s m after = record {
-      keeps = subst (λ (cs : List InFlightChain). AllByRecursion (KeepsQueue s m) cs) (sym empty) tt;
+      keeps = subst (λ (cs : List InFlightChain). AllByRecursion (KeepsQueue s m) cs) (sym none.chains) tt;
       state = refl;
-    } in
-    let run : LiveRun any_files s (Remaps m ∷ []) after = (after, e, refl) in
-    let driven : Driven after i page_size q ws' [] pops push = record {
-      all = record { chains = empty; held = tt; once = tt };
-      queue = all.queue;
-      page = all.page;
-      small = all.small;
-      mine = λ j w c there is. absurd is;
-      outs = λ j w there out. absurd (not_free (is_out w.state) out
-          (ap is_out (is_free regions.now ws ws' j w takes there)));
-      fits = λ j w there. fits_new s q regions.now ws ws' i page_size j w d all takes there;
-      left = λ c is. absurd is;
-      still = all.still;
-      counts = λ most next. zero-le;
     } in (
       Remaps m ∷ [],
       after,
       [],
       pops,
-      push,
-      run,
-      driven,
-      subst (λ (l : List Seen). ReportsAll i page_size d l (Remaps m ∷ []) end) (sym z.1) (
-        Remaps m ∷ [],
-        [],
-        end,
-        refl,
-        (run, driven),
-        inr (inr (refl, clear, takes, refl, none, refl)),
-        (refl, refl),
-      ),
-    )
-
-not_remapped : (ws ws' : List ChainHandle) (q : QueueState) (alloc : Global) (regions : Bor (List Region))
-    (e : ChainError)
-    → ws' ≡ ws → IsErrorOf (remap_error ws q regions.now) (length regions.now) e
-    → (page_size k : ℕ)
-    → Drives page_size ws ws' q q (call_of k (does.Remap alloc regions) (gives.Remapped (Err e)) ∷ [])
-unfolding Drives
-not_remapped ws ws' q alloc regions e same why page_size k =
-    subst (λ (l : List ChainHandle). Drives page_size ws l q q
-    (call_of k (does.Remap alloc regions) (gives.Remapped (Err e)) ∷ [])) (sym same) at_same
+      pushes,
+      (after, e, refl),
+      record {
+        all = record { chains = none.chains; held = tt; once = tt };
+        queues = all.queues;
+        page = all.page;
+        small = all.small;
+        mine = λ j w c there is. absurd is;
+        outs = λ j w there out. absurd (not_free (is_out w.state) out
+            (ap is_out (is_free regions.now ws ws' j w takes there)));
+        fits = λ j w i q there number at.
+            fits_new s on page_size qs ws ws' os pops pushes regions.now j w i q q all takes there number at;
+        left = λ c is. absurd is;
+        still = all.still;
+        counts = λ i q at few small. zero-le;
+      },
+      (refl, clear, takes, refl, none.owned, refl),
+    ))
   where
-    at_same : Drives page_size ws ws q q (call_of k (does.Remap alloc regions) (gives.Remapped (Err e)) ∷ [])
-    at_same zs calls s i os pops push all =
-        let z = single zs (call_of k (does.Remap alloc regions) (gives.Remapped (Err e))) calls in
-        let d : Desk = desk s ws q os pops push in (
-          [],
-          s,
-          os,
-          pops,
-          push,
-          refl,
-          all,
-          subst (λ (l : List Seen). ReportsAll i page_size d l [] d) (sym z.1)
-              ([], [], d, refl, (refl, all), inr (inr (refl, refl, why)), (refl, refl)),
-        )
+    m : Memory
+    m = places_in (untranslated regions.now)
 
-pub remap_result : (ws ws' : List ChainHandle) (q : QueueState) (alloc : Global) (regions : Bor (List Region))
+pub remap_result : (ws ws' : List ChainHandle) (qs : List QueueState) (alloc : Global) (regions : Bor (List Region))
     (result : Result (Unit {0}) ChainError)
     → OnOk result (TakeMemory regions.now ws ws')
-    → OnOk result (in_flight q ≡ 0)
-    → OnOk result (remap_error ws q regions.now ≡ None)
-    → IfErr result (IsErrorOf (remap_error ws q regions.now) (length regions.now))
+    → OnOk result (HaveNone qs)
+    → OnOk result (remap_error ws qs regions.now ≡ None)
+    → IfErr result (IsErrorOf (remap_error ws qs regions.now) (length regions.now))
     → OnErr result (ws' ≡ ws)
-    → q.max_in_flight < 2 ^ 16 → q.next_used < 2 ^ 16
-    → (page_size k : ℕ)
-    → Drives page_size ws ws' q q (call_of k (does.Remap alloc regions) (gives.Remapped result) ∷ [])
-remap_result ws ws' q alloc regions (Ok done) takes none clear err same few small page_size k =
-    remapped ws ws' q alloc regions none few small clear takes page_size k
-remap_result ws ws' q alloc regions (Err e) takes none clear err same few small page_size k =
-    not_remapped ws ws' q alloc regions e same err page_size k
+    → (on : List ℕ) (page_size k : ℕ)
+    → Drives on page_size ws ws' qs qs (call_of k (does.Remap alloc regions) (gives.Remapped result) ∷ [])
+remap_result ws ws' qs alloc regions (Ok done) takes none clear err same on page_size k =
+    remapped ws ws' qs alloc regions none clear takes on page_size k
+remap_result ws ws' qs alloc regions (Err e) takes none clear err same on page_size k =
+    subst (λ (l : List ChainHandle). Drives on page_size ws l qs qs
+    (call_of k (does.Remap alloc regions) (gives.Remapped (Err e)) ∷ [])) (sym same)
+    (none_of_queue on page_size k ws qs (does.Remap alloc regions) (gives.Remapped (Err e))
+    (λ s os pops pushes. (refl, refl, err)))
 
 -- ---- its errors
 
 abbrev error_at : List ChainHandle → List Region → Bool → Option ChainError
 error_at ws regions b = if b then handles_error ws regions else Some error.ChainInFlight
 
-pub busy : (ws : List ChainHandle) (q : QueueState) (regions : List Region) (n : ℕ) → (in_flight q ≡ 0 → ⊥)
-    → IsErrorOf (remap_error ws q regions) n error.ChainInFlight
-busy ws q regions n out = inl (ap (λ (b : Bool). error_at ws regions b) (no_test (in_flight q == 0) refl))
-  where
-    no_test : (b : Bool) → (in_flight q == 0) ≡ b → (in_flight q == 0) ≡ false
-    no_test true is = absurd (out (eqb-true (in_flight q) 0 is))
-    no_test false is = is
+pub busy : (ws : List ChainHandle) (qs : List QueueState) (regions : List Region) (n : ℕ) → are_idle qs ≡ false
+    → IsErrorOf (remap_error ws qs regions) n error.ChainInFlight
+busy ws qs regions n is = inl (ap (λ (b : Bool). error_at ws regions b) is)
 
-same_error : (ws : List ChainHandle) (q : QueueState) (regions : List Region) → in_flight q ≡ 0
-    → remap_error ws q regions ≡ handles_error ws regions
-same_error ws q regions none = ap (λ (n : ℕ). error_at ws regions (n == 0)) none
+pub idle : (ws : List ChainHandle) (qs : List QueueState) (regions : List Region) → are_idle qs ≡ true
+    → handles_error ws regions ≡ None → remap_error ws qs regions ≡ None
+idle ws qs regions is ok = ap (λ (b : Bool). error_at ws regions b) is ∙ ok
 
-pub idle : (ws : List ChainHandle) (q : QueueState) (regions : List Region) → in_flight q ≡ 0
-    → handles_error ws regions ≡ None → remap_error ws q regions ≡ None
-idle ws q regions none ok = same_error ws q regions none ∙ ok
-
-pub fails : (ws : List ChainHandle) (q : QueueState) (regions : List Region) (n : ℕ) (e : ChainError)
-    → in_flight q ≡ 0 → IsErrorOf (handles_error ws regions) n e → IsErrorOf (remap_error ws q regions) n e
-fails ws q regions n e none why =
-    subst (λ (o : Option ChainError). IsErrorOf o n e) (sym (same_error ws q regions none)) why
+pub fails : (ws : List ChainHandle) (qs : List QueueState) (regions : List Region) (n : ℕ) (e : ChainError)
+    → are_idle qs ≡ true → IsErrorOf (handles_error ws regions) n e → IsErrorOf (remap_error ws qs regions) n e
+fails ws qs regions n e is why =
+    subst (λ (o : Option ChainError). IsErrorOf o n e) (sym (ap (λ (b : Bool). error_at ws regions b) is)) why
 
 -- for one handle alone it isn't set
 pub no_memory_of_one : (old new : ChainHandle) (q : QueueState) → new ≡ old
@@ -192,4 +202,4 @@ pub no_memory_of_one : (old new : ChainHandle) (q : QueueState) → new ≡ old
     → DrivesOne page_size old new q q (does.Remap alloc regions) gives.NotOfOne
 no_memory_of_one old new q same page_size alloc regions =
     refuses page_size old new q (does.Remap alloc regions) gives.NotOfOne (same_held old new same)
-    (λ i k d d' u is now. (refl, (same, now ∙ sym is)))
+    (λ i k d d' u. (refl, (same, refl)))

@@ -1,199 +1,366 @@
--- Calls of the queue drive the run: a reset, after which no chain is in flight any more, also none whose handle
--- was freed, and a store before a sleep.
-use Rattle.std.proofs.Common.{inl, inr, ◌≡◌, ℕ, zero, suc, Bool, true, false, List, [], ◌∷◌, Option, Some, None, arith}
-use Rattle.std.proofs.Common.{All, append-nil, eq-eqb, refl, subst, sym, ap, ◌∙◌, ◌==◌, map, not, slice_get}
-use Rattle.std.proofs.Common.{zero-le}
-use Rattle.std.specs.Prelude.{◌≤◌, filter, if◌then◌else◌, option_map}
+-- Calls of a queue drive the run: a reset, after which none of its chains is in flight any more, also none whose
+-- handle was freed, and a store before a sleep.
+use Rattle.std.proofs.Common.{arith, inl, inr, ◌≡◌, ◌+◌, ◌≤◌, ◌<◌, ℕ, zero, suc, Bool, true, false, List, [], ◌∷◌, Option, Some, None}
+use Rattle.std.proofs.Common.{append-nil, eq-eqb, eqb-true, length, refl, subst, sym, ap, ◌∙◌, ◌==◌, map, not, slice_get, zero-le}
+use Rattle.std.specs.Prelude.{filter, if◌then◌else◌, nat_lt, option_map, slice_set}
 use Rattle.std.specs.List.{AllByRecursion}
-use Rattle.fs_chain.specs.Queues.{SameEventIndex}
-use Rattle.fs_chain.proofs.HoldsQueues.{same_index}
-use Rattle.fs_driven.proofs.Handles.{fits_queue}
+use Rattle.std.proofs.lemmas.Bool.{ltb-false, ltb-true}
 use Rattle.fs_queue.specs.declared.layout.QueueLayout.{QueueLayout}
+use Rattle.live_machine.specs.Several.{in_flight}
 use Rattle.live_machine.specs.Live.{InFlightChain, LiveRun, ResetsQueue, StoresNotification}
 use Rattle.live_machine.specs.Live.{after_reset}
-use Rattle.live_machine.proofs.Queues.{none_some, same_some}
+use Rattle.live_machine.proofs.Queues.{none_some, preserved_not, same_some, there_other}
 use Rattle.vm_memory.specs.Memory.{reach}
 use Rattle.vm_iotlb.specs.declared.permissions.Permissions.TheVariants.{Write}
 use Rattle.fs_chain.specs.Events.{notification_store, store_of}
-use Rattle.fs_chain.specs.Holds.{Machine, any_files, live_of}
+use Rattle.fs_chain.specs.Holds.{IsQueue, Machine, Pop, any_files, live_of}
 use Rattle.fs_chain.specs.HoldsAround.{NotificationIs, Resets, StoresNotice}
 use Rattle.fs_chain.specs.declared.notifications.NotificationStore.{NotificationStore}
 use Rattle.fs_chain.specs.Orders.{is_out}
 use Rattle.fs_chain.specs.Queues.{reset_to}
-use Rattle.fs_chain.specs.Together.{IsHeldBy, Owned}
+use Rattle.fs_chain.specs.Together.{EachHasOne, HasNoMore, IsHeldBy, IsNot, Owned}
 use Rattle.fs_chain.specs.declared.chain_handle.ChainHandle.{ChainHandle}
 use Rattle.fs_chain.specs.declared.queue.QueueState.{QueueState}
+use Rattle.fs_driven.specs.declared.commands.Command.{Command}
 use Rattle.fs_driven.specs.declared.commands.Command.TheVariants as does
+use Rattle.fs_driven.specs.declared.commands.Returned.{Returned}
 use Rattle.fs_driven.specs.declared.commands.Returned.TheVariants as gives
-use Rattle.fs_driven.specs.Desks.{Desk, Driven, FitsRun, In, IsLost, desk, lost}
-use Rattle.fs_driven.specs.Reported.{Drives, DrivesOne, HasNoChain, MayReset, ReportsAll, call_of, storing}
-use Rattle.fs_driven.proofs.Handles.{Seen, held_out, not_free}
+use Rattle.fs_driven.specs.Desks.{Begun, Desk, Driven, FitsRun, HasInFlight, In, IsReady, Leads, desk, lost, number_of, own}
+use Rattle.fs_driven.specs.Desks.{with_push, with_queue}
+use Rattle.fs_driven.specs.Reported.{Drives, DrivesOne, HaveNoChain, MayReset, ReportsAll, ReportsOfQueue, call_of, of_others, storing}
+use Rattle.fs_driven.proofs.Counts.{number_same}
+use Rattle.fs_driven.proofs.Handles.{Seen, each_queue, fits_queue, not_free}
 use Rattle.fs_driven.proofs.Calls.{refuses, same_held}
-use Rattle.fs_driven.proofs.Lists.{single}
+use Rattle.fs_driven.proofs.Lists.{nowhere, set_changed, single}
+use Rattle.fs_driven.proofs.Spots.{push_apart, push_here}
 
--- ---- chains without a handle
+-- ---- a call of a queue, or of all
 
--- no handle has a chain
-abbrev NoneIsOut : List ChainHandle → Type 0
-NoneIsOut ws = (k : ℕ) (w : ChainHandle) → slice_get ws k ≡ Some w → is_out w.state ≡ false
+-- it is a run, if it leads to its events
+pub one_of_queue : (on : List ℕ) (page_size k : ℕ) (ws ws' : List ChainHandle) (qs qs' : List QueueState)
+    (command : Command) (returned : Returned)
+    → ((s : Machine) (os : List Owned) (pops : ℕ → Pop) (pushes : ℕ → Option Begun)
+    → Driven s on page_size qs ws os pops pushes
+    → Leads s on page_size qs' ws'
+    (λ es d. ReportsOfQueue on (desk s ws qs os pops pushes) d command returned es))
+    → Drives on page_size ws ws' qs qs' (call_of k command returned ∷ [])
+unfolding Drives
+one_of_queue on page_size k ws ws' qs qs' command returned leads zs calls s os pops pushes all =
+    let z = single zs (call_of k command returned) calls in
+    let a = leads s os pops pushes all in
+    let d : Desk = desk s ws qs os pops pushes in
+    let end : Desk = desk a.1 ws' qs' a.2 a.3 a.4 in (
+      a.0,
+      a.1,
+      a.2,
+      a.3,
+      a.4,
+      a.5,
+      a.6,
+      subst (λ (l : List Seen). ReportsAll on page_size d l a.0 end) (sym z.1)
+          (a.0, [], end, sym (append-nil a.0), (a.5, a.6), inr (inr a.7), (refl, refl)),
+    )
 
-none_out : (ws : List ChainHandle) → All HasNoChain ws → NoneIsOut ws
-none_out [] all k w there = absurd (none_some w there)
-none_out (v ∷ ws) all zero w there =
-    subst (λ (x : ChainHandle). is_out x.state ≡ false) (same_some v w there) (all zero v (omega arith))
-none_out (v ∷ ws) all (suc k) w there =
-    none_out ws (λ j d less. all (suc j) d (omega arith)) k w there
+-- a call that changes nothing
+pub none_of_queue : (on : List ℕ) (page_size k : ℕ) (ws : List ChainHandle) (qs : List QueueState)
+    (command : Command) (returned : Returned)
+    → ((s : Machine) (os : List Owned) (pops : ℕ → Pop) (pushes : ℕ → Option Begun)
+    → ReportsOfQueue on (desk s ws qs os pops pushes) (desk s ws qs os pops pushes) command returned [])
+    → Drives on page_size ws ws qs qs (call_of k command returned ∷ [])
+none_of_queue on page_size k ws qs command returned reports =
+    one_of_queue on page_size k ws ws qs qs command returned
+    (λ s os pops pushes all. ([], s, os, pops, pushes, refl, all, reports s os pops pushes))
 
--- each chain is one without a handle
-each_lost : (page_size i : ℕ) (ws : List ChainHandle) (os : List Owned) → NoneIsOut ws
-    → AllByRecursion (λ (o : Owned). IsHeldBy page_size ws o.handle o.chain) os
-    → ((c : InFlightChain) → In (lost c) os → IsLost i c)
-    → AllByRecursion (IsLost i) (map (λ (o : Owned). o.chain) os)
-each_lost page_size i ws [] none held left = tt
-each_lost page_size i ws (o ∷ os) none held left =
-    (by_handle o.handle refl held.0, each_lost page_size i ws os none held.1 (λ c m. left c (inr m)))
+-- ---- handles without a chain
+
+-- none of the first n handles that are of queue i has a chain in flight
+abbrev pub NoneSoFar : (on : List ℕ) → (i : ℕ) → List ChainHandle → (n : ℕ) → Type 0
+NoneSoFar on i ws n =
+    (k : ℕ) (w : ChainHandle) → k < n → slice_get ws k ≡ Some w → slice_get on k ≡ Some i → is_out w.state ≡ false
+
+pub none_more : (on : List ℕ) (i : ℕ) (ws : List ChainHandle) (n : ℕ) (w : ChainHandle) (of : ℕ) → NoneSoFar on i ws n
+    → slice_get ws n ≡ Some w → slice_get on n ≡ Some of → (of ≡ i → is_out w.state ≡ false) → NoneSoFar on i ws (n + 1)
+none_more on i ws n w of so_far there number free k v less at of_queue = by_test (nat_lt k n) refl
   where
-    by_handle : (h : Option ℕ) → o.handle ≡ h → IsHeldBy page_size ws h o.chain → IsLost i o.chain
-    by_handle None is held =
-        left o.chain (inl (ap (λ (h : Option ℕ). record { handle = h; chain = o.chain }) (sym is)))
-    by_handle (Some k) is held =
-        absurd (not_free (is_out held.0.state)
-        (held_out page_size o.chain o.chain.phase held.0.state held.0.session held.2) (none k held.0 held.1))
+    by_test : (b : Bool) → nat_lt k n ≡ b → is_out v.state ≡ false
+    by_test true is = so_far k v (ltb-true k n is) at of_queue
+    by_test false is =
+        let past : n ≤ k = ltb-false k n is in
+        let same : k ≡ n = omega (arith, past, less) in
+        let one : w ≡ v = same_some w v (sym there ∙ ap (λ (m : ℕ). slice_get ws m) (sym same) ∙ at) in
+        let its : of ≡ i = same_some of i (sym number ∙ ap (λ (m : ℕ). slice_get on m) (sym same) ∙ of_queue) in
+        subst (λ (x : ChainHandle). is_out x.state ≡ false) one (free its)
 
--- a reset takes them away
-all_gone : (i : ℕ) (cs : List InFlightChain) → AllByRecursion (IsLost i) cs →
-    filter (λ (c : InFlightChain). not (c.queue == i)) cs ≡ []
-all_gone i [] lost = refl
-all_gone i (c ∷ cs) lost =
-    let is : not (c.queue == i) ≡ false = ap (λ (b : Bool). not b) (eq-eqb c.queue i lost.0.0) in
-    rw is (all_gone i cs lost.1)
+within : {A : Type 0} (xs : List A) (k : ℕ) (x : A) → slice_get xs k ≡ Some x → k < length xs
+within {A} xs k x there = by_test (nat_lt k (length xs)) refl
+  where
+    by_test : (b : Bool) → nat_lt k (length xs) ≡ b → k < length xs
+    by_test true is = ltb-true k (length xs) is
+    by_test false is = absurd (none_some x (sym (nowhere xs k (ltb-false k (length xs) is)) ∙ there))
+
+pub none_of_handles : (on : List ℕ) (i : ℕ) (ws : List ChainHandle) (n : ℕ) → NoneSoFar on i ws n → length ws ≤ n
+    → HaveNoChain on i ws
+none_of_handles on i ws n so_far past k w there number =
+    let less = within ws k w there in so_far k w (omega (arith, less, past)) there number
+
+pub none_of_numbers : (on : List ℕ) (i : ℕ) (ws : List ChainHandle) (n : ℕ) → NoneSoFar on i ws n → length on ≤ n
+    → HaveNoChain on i ws
+none_of_numbers on i ws n so_far past k w there number =
+    let less = within on k i number in so_far k w (omega (arith, less, past)) there number
+
+-- ---- the chains of other queues
+
+-- by whether the first one is of queue i
+others_by : (P : List Owned → Type 0) (i : ℕ) (o : Owned) (os : List Owned)
+    → ((o.chain.queue == i) ≡ true → P (of_others i os))
+    → ((o.chain.queue == i) ≡ false → P (o ∷ of_others i os))
+    → P (of_others i (o ∷ os))
+others_by P i o os gone stays = by_test (o.chain.queue == i) refl
+  where
+    are : (b : Bool) → (o.chain.queue == i) ≡ b →
+        (if not b then o ∷ of_others i os else of_others i os) ≡ of_others i (o ∷ os)
+    are b is = sym (ap (λ (t : Bool). if not t then o ∷ of_others i os else of_others i os) is)
+
+    by_test : (b : Bool) → (o.chain.queue == i) ≡ b → P (of_others i (o ∷ os))
+    by_test true is = subst P (are true is) (gone is)
+    by_test false is = subst P (are false is) (stays is)
+
+all_others : (P : Owned → Type 0) (i : ℕ) (os : List Owned) → AllByRecursion P os → AllByRecursion P (of_others i os)
+all_others P i [] all = tt
+all_others P i (o ∷ os) all =
+    others_by (λ (l : List Owned). AllByRecursion P l) i o os (λ is. all_others P i os all.1)
+    (λ is. (all.0, all_others P i os all.1))
+
+chains_of_others : (i : ℕ) (os : List Owned) →
+    filter (λ (c : InFlightChain). not (c.queue == i)) (map (λ (o : Owned). o.chain) os)
+    ≡ map (λ (o : Owned). o.chain) (of_others i os)
+chains_of_others i [] = refl
+chains_of_others i (o ∷ os) =
+    let f : InFlightChain → Bool = λ c. not (c.queue == i) in
+    let cs : List InFlightChain = map (λ (x : Owned). x.chain) os in
+    let more = chains_of_others i os in
+    others_by (λ (l : List Owned). filter f (o.chain ∷ cs) ≡ map (λ (x : Owned). x.chain) l) i o os
+    (λ is. preserved_not f o.chain cs false (ap not is) ∙ more)
+    (λ is. preserved_not f o.chain cs true (ap not is) ∙ ap (λ (l : List InFlightChain). o.chain ∷ l) more)
+
+no_more : (h : Option ℕ) (i : ℕ) (os : List Owned) → HasNoMore h os → HasNoMore h (of_others i os)
+no_more None i os none = tt
+no_more (Some k) i os none = all_others (λ (o : Owned). IsNot k o.handle) i os none
+
+once_others : (i : ℕ) (os : List Owned) → EachHasOne os → EachHasOne (of_others i os)
+once_others i [] once = tt
+once_others i (o ∷ os) once =
+    others_by (λ (l : List Owned). EachHasOne l) i o os (λ is. once_others i os once.1)
+    (λ is. (no_more o.handle i os once.0, once_others i os once.1))
+
+-- each was one of the chains, and is of another queue
+was_in : (i : ℕ) (x : Owned) (os : List Owned) → In x (of_others i os) → In x os × (x.chain.queue ≡ i → ⊥)
+was_in i x [] = λ m. absurd m
+was_in i x (o ∷ os) =
+    others_by (λ (l : List Owned). In x l → In x (o ∷ os) × (x.chain.queue ≡ i → ⊥)) i o os
+    (λ is m. let r = was_in i x os m in (inr r.0, r.1)) (λ is m. by_place is (λ n. was_in i x os n) m)
+  where
+    by_place : (o.chain.queue == i) ≡ false → (In x (of_others i os) → In x os × (x.chain.queue ≡ i → ⊥)) →
+        In x (o ∷ of_others i os) → In x (o ∷ os) × (x.chain.queue ≡ i → ⊥)
+    by_place is rest (inl e) = (
+      inl e,
+      λ same. not_free (o.chain.queue == i)
+          (eq-eqb o.chain.queue i (sym (ap (λ (y : Owned). y.chain.queue) e) ∙ same)) is,
+    )
+    by_place is rest (inr m) = let r = rest m in (inr r.0, r.1)
+
+still_in : (i : ℕ) (x : Owned) (os : List Owned) → In x os → (x.chain.queue ≡ i → ⊥) → In x (of_others i os)
+still_in i x [] m apart = absurd m
+still_in i x (o ∷ os) (inl e) apart =
+    others_by (λ (l : List Owned). In x l) i o os
+    (λ is. absurd (apart (ap (λ (y : Owned). y.chain.queue) e ∙ eqb-true o.chain.queue i is))) (λ is. inl e)
+still_in i x (o ∷ os) (inr m) apart =
+    others_by (λ (l : List Owned). In x l) i o os (λ is. still_in i x os m apart)
+    (λ is. inr (still_in i x os m apart))
+
+number_gone : (i : ℕ) (os : List Owned) → number_of i (of_others i os) ≡ 0
+number_gone i [] = refl
+number_gone i (o ∷ os) =
+    let more = number_gone i os in
+    others_by (λ (l : List Owned). number_of i l ≡ 0) i o os (λ is. more)
+    (λ is. ap (λ (b : Bool). if b then suc (number_of i (of_others i os)) else number_of i (of_others i os)) is ∙ more)
+
+number_still : (i j : ℕ) (os : List Owned) → (i ≡ j → ⊥) → number_of j (of_others i os) ≡ number_of j os
+number_still i j [] apart = refl
+number_still i j (o ∷ os) apart =
+    let more = number_still i j os apart in
+    others_by (λ (l : List Owned). number_of j l ≡ number_of j (o ∷ os)) i o os
+    (λ is. more ∙ sym (number_same j [] os o (λ same. apart (sym (eqb-true o.chain.queue i is) ∙ same))))
+    (λ is. ap (λ (n : ℕ). if o.chain.queue == j then suc n else n) more)
 
 -- ---- a reset
 
-pub reset_done : (ws : List ChainHandle) (q q' : QueueState) (layout : QueueLayout) (position : ℕ)
-    → MayReset ws q layout → q' ≡ reset_to q layout position → Resets q q'
-    → (page_size k : ℕ)
-    → Drives page_size ws ws q q' (call_of k (does.Reset layout position) (gives.Reset true) ∷ [])
-unfolding Drives Resets
-reset_done ws q q' layout position may is resets page_size k zs calls s i os pops push all =
-    let z = single zs (call_of k (does.Reset layout position) (gives.Reset true)) calls in
-    let none = none_out ws may.0 in
-    let lost : AllByRecursion (IsLost i) s.chains =
-    subst (λ (cs : List InFlightChain). AllByRecursion (IsLost i) cs) (sym all.all.chains)
-    (each_lost s.page_size i ws os none all.all.held all.left) in
-    let max : q'.max_in_flight ≡ q.max_in_flight = ap (λ (r : QueueState). r.max_in_flight) is in
-    let event : SameEventIndex q' q = same_index q' _ is in
-    let laid : q'.layout ≡ layout = ap (λ (r : QueueState). r.layout) is in
-    let most : q'.max_in_flight ≤ q'.layout.size =
-    subst (λ (n : ℕ). n ≤ q'.layout.size) (sym max)
-    (subst (λ (l : QueueLayout). q.max_in_flight ≤ l.size) (sym laid) may.2) in
-    let e = resets s i q' all.queue
-    (subst (λ (n : ℕ). 1 ≤ n) (sym max) may.1) most in
-    let after : Machine = after_reset s i (live_of q') in
-    let d : Desk = desk s ws q os pops push in
-    let end : Desk = desk after ws q' [] pops None in
-    let run : LiveRun any_files s (ResetsQueue i (live_of q') ∷ []) after = (after, e.0, refl) in
-    let driven : Driven after i page_size q' ws [] pops None = record {
-      all = record { chains = all_gone i s.chains lost; held = tt; once = tt };
-      queue = e.1;
+resets_driven : (on : List ℕ) (ws : List ChainHandle) (i : ℕ) (q : QueueState) (layout : QueueLayout) (position page_size : ℕ)
+    (qs : List QueueState) (s : Machine) (os : List Owned) (pops : ℕ → Pop) (pushes : ℕ → Option Begun)
+    → MayReset on i ws q layout → slice_get qs i ≡ Some q
+    → IsQueue (after_reset s i (live_of (reset_to q layout position))) i (reset_to q layout position)
+    → Driven s on page_size qs ws os pops pushes
+    → Driven (after_reset s i (live_of (reset_to q layout position))) on page_size
+    (with_queue qs i (reset_to q layout position)) ws (of_others i os) pops (with_push pushes i None)
+resets_driven on ws i q layout position page_size qs s os pops pushes may there is all =
+    let r : QueueState = reset_to q layout position in
+    let after : Machine = after_reset s i (live_of r) in
+    record {
+      all = record {
+        chains = ap (λ (cs : List InFlightChain). filter (λ (c : InFlightChain). not (c.queue == i)) cs) all.all.chains
+            ∙ chains_of_others i os;
+        held = all_others (λ (o : Owned). IsHeldBy s.page_size ws o.handle o.chain) i os all.all.held;
+        once = once_others i os all.all.once;
+      };
+      queues = each_queue qs i q r (λ (j : ℕ) (p : QueueState). IsQueue after j p) there is
+          (λ j p apart at. there_other s.queues i j (λ _. live_of r) apart ∙ all.queues j p at);
       page = all.page;
       small = all.small;
-      mine = λ j w c there m. absurd m;
-      outs = λ j w there out. absurd (not_free (is_out w.state) out (none j w there));
-      fits = λ j w there.
-          fits_queue s.places s.limit q q' (pops j) w event (all.fits j w there);
-      left = λ c m. absurd m;
-      still = λ pushing. refl;
-      counts = λ few small. zero-le;
-    } in (
-      ResetsQueue i (live_of q') ∷ [],
-      after,
-      [],
-      pops,
-      None,
-      run,
-      driven,
-      subst (λ (l : List Seen). ReportsAll i page_size d l (ResetsQueue i (live_of q') ∷ []) end) (sym z.1) (
-        ResetsQueue i (live_of q') ∷ [],
-        [],
-        end,
-        refl,
-        (run, driven),
-        inr (inr (refl, may, is, refl, refl)),
-        (refl, refl),
-      ),
-    )
+      mine = λ k w c there_w m.
+          let was = was_in i (own k c) os m in
+          let mine = all.mine k w c there_w was.0 in
+          let apart : i ≡ c.queue → ⊥ = λ same. was.1 (sym same) in (
+            mine.0,
+            mine.1,
+            there_other qs i c.queue (λ _. r) apart ∙ mine.2,
+            subst (λ (b : Option Begun). IsReady page_size k mine.1 b c w.state)
+                (sym (push_apart pushes i c.queue None apart)) mine.3,
+          );
+      outs = λ k w there_w out.
+          let o = all.outs k w there_w out in
+          let number = (all.mine k w o.0 there_w o.1).0 in (
+            o.0,
+            still_in i (own k o.0) os o.1 (λ same. not_free (is_out w.state) out (may.0 k w there_w
+                (number ∙ ap (λ (n : ℕ). Some n) same))),
+          );
+      fits = λ k w j p there_w number at.
+          each_queue qs i q r
+          (λ (n : ℕ) (x : QueueState). slice_get on k ≡ Some n → FitsRun s.places s.limit x (pops k) w) there
+          (λ num. fits_queue s.places s.limit q r (pops k) w refl (all.fits k w i q there_w num there))
+          (λ n x apart there_x num. all.fits k w n x there_w num there_x) j p at number;
+      left = λ c m.
+          let was = was_in i (lost c) os m in
+          let left = all.left c was.0 in
+          (left.0, there_other qs i c.queue (λ _. r) (λ same. was.1 (sym same)) ∙ left.1, left.2, left.3);
+      still = each_queue qs i q r (λ (j : ℕ) (p : QueueState). p.pushing ≡ false → with_push pushes i None j ≡ None) there
+          (λ pushing. push_here pushes i None)
+          (λ j p apart at pushing. push_apart pushes i j None apart ∙ all.still j p at pushing);
+      counts = each_queue qs i q r
+          (λ (j : ℕ) (p : QueueState). HasInFlight (live_of p) (number_of j (of_others i os))) there
+          (λ few small. subst (λ (n : ℕ). n ≤ in_flight (live_of r)) (sym (number_gone i os)) zero-le)
+          (λ j p apart at. subst (λ (n : ℕ). HasInFlight (live_of p) n) (sym (number_still i j os apart))
+          (all.counts j p at));
+    }
 
-pub reset_not_done : (ws : List ChainHandle) (q : QueueState) (layout : QueueLayout) (position : ℕ)
-    → (MayReset ws q layout → ⊥)
-    → (page_size k : ℕ)
-    → Drives page_size ws ws q q (call_of k (does.Reset layout position) (gives.Reset false) ∷ [])
-unfolding Drives
-reset_not_done ws q layout position not page_size k zs calls s i os pops push all =
-    let z = single zs (call_of k (does.Reset layout position) (gives.Reset false)) calls in
-    let d : Desk = desk s ws q os pops push in (
-      [],
-      s,
-      os,
+pub reset_done : (on : List ℕ) (ws : List ChainHandle) (i : ℕ) (q q' : QueueState) (layout : QueueLayout) (position : ℕ)
+    → MayReset on i ws q layout → q' ≡ reset_to q layout position → Resets q q'
+    → (page_size k : ℕ) (qs : List QueueState) → slice_get qs i ≡ Some q
+    → Drives on page_size ws ws qs (with_queue qs i q') (call_of k (does.Reset i layout position) (gives.Reset true) ∷ [])
+unfolding Resets
+reset_done on ws i q q' layout position may is resets page_size k qs there =
+    let r : QueueState = reset_to q layout position in
+    let resets_so : Resets q r = subst (λ (x : QueueState). Resets q x) is resets in
+    subst (λ (x : QueueState). Drives on page_size ws ws qs (with_queue qs i x)
+    (call_of k (does.Reset i layout position) (gives.Reset true) ∷ [])) (sym is)
+    (one_of_queue on page_size k ws ws qs (with_queue qs i r) (does.Reset i layout position) (gives.Reset true)
+    (λ s os pops pushes all.
+    let e = resets_so s i r (all.queues i q there) may.1 may.2 in (
+      ResetsQueue i (live_of r) ∷ [],
+      after_reset s i (live_of r),
+      of_others i os,
       pops,
-      push,
-      refl,
-      all,
-      subst (λ (l : List Seen). ReportsAll i page_size d l [] d) (sym z.1)
-          ([], [], d, refl, (refl, all), inr (inr (refl, refl, not)), (refl, refl)),
-    )
+      with_push pushes i None,
+      (after_reset s i (live_of r), e.0, refl),
+      resets_driven on ws i q layout position page_size qs s os pops pushes may there e.1 all,
+      (q, there, (refl, may, refl, refl, refl)),
+    )))
+
+-- so it is in the list of the queues
+pub reset_at : (on : List ℕ) (ws : List ChainHandle) (qs : List QueueState) (i : ℕ) (q q' : QueueState) (layout : QueueLayout)
+    (position : ℕ) (done : Bool) → slice_get qs i ≡ Some q
+    → ((page_size k : ℕ) (l : List QueueState) → slice_get l i ≡ Some q
+    → Drives on page_size ws ws l (with_queue l i q') (call_of k (does.Reset i layout position) (gives.Reset done) ∷ []))
+    → (page_size k : ℕ)
+    → Drives on page_size ws ws qs (slice_set qs i q') (call_of k (does.Reset i layout position) (gives.Reset done) ∷ [])
+reset_at on ws qs i q q' layout position done there drives page_size k =
+    subst (λ (l : List QueueState). Drives on page_size ws ws qs l
+    (call_of k (does.Reset i layout position) (gives.Reset done) ∷ [])) (sym (set_changed qs i q'))
+    (drives page_size k qs there)
+
+with_same : (qs : List QueueState) (i : ℕ) (q : QueueState) → slice_get qs i ≡ Some q → with_queue qs i q ≡ qs
+with_same [] i q there = refl
+with_same (p ∷ qs) zero q there = ap (λ (x : QueueState). x ∷ qs) (sym (same_some p q there))
+with_same (p ∷ qs) (suc i) q there = ap (λ (l : List QueueState). p ∷ l) (with_same qs i q there)
+
+pub reset_not_done : (on : List ℕ) (ws : List ChainHandle) (i : ℕ) (q : QueueState) (layout : QueueLayout) (position : ℕ)
+    → (MayReset on i ws q layout → ⊥)
+    → (page_size k : ℕ) (qs : List QueueState) → slice_get qs i ≡ Some q
+    → Drives on page_size ws ws qs (with_queue qs i q) (call_of k (does.Reset i layout position) (gives.Reset false) ∷ [])
+reset_not_done on ws i q layout position not page_size k qs there =
+    subst (λ (l : List QueueState). Drives on page_size ws ws qs l
+    (call_of k (does.Reset i layout position) (gives.Reset false) ∷ [])) (sym (with_same qs i q there))
+    (none_of_queue on page_size k ws qs (does.Reset i layout position) (gives.Reset false)
+    (λ s os pops pushes. (q, there, (refl, refl, not))))
+
+-- there is no such queue
+pub no_queue_to_reset : (on : List ℕ) (ws : List ChainHandle) (qs : List QueueState) (i : ℕ) (layout : QueueLayout)
+    (position : ℕ) → length qs ≤ i
+    → (page_size k : ℕ)
+    → Drives on page_size ws ws qs qs (call_of k (does.Reset i layout position) gives.NoQueue ∷ [])
+no_queue_to_reset on ws qs i layout position past page_size k =
+    none_of_queue on page_size k ws qs (does.Reset i layout position) gives.NoQueue
+    (λ s os pops pushes. (nowhere qs i past, refl, refl))
 
 -- for one handle alone it isn't done
 pub no_reset_of_one : (old new : ChainHandle) (q : QueueState) → new ≡ old
-    → (page_size : ℕ) (layout : QueueLayout) (position : ℕ)
-    → DrivesOne page_size old new q q (does.Reset layout position) gives.NotOfOne
-no_reset_of_one old new q same page_size layout position =
-    refuses page_size old new q (does.Reset layout position) gives.NotOfOne (same_held old new same)
-    (λ i k d d' u is now. (refl, (same, now ∙ sym is)))
+    → (page_size i : ℕ) (layout : QueueLayout) (position : ℕ)
+    → DrivesOne page_size old new q q (does.Reset i layout position) gives.NotOfOne
+no_reset_of_one old new q same page_size i layout position =
+    refuses page_size old new q (does.Reset i layout position) gives.NotOfOne (same_held old new same)
+    (λ n k d d' u. (refl, (same, refl)))
 
 -- ---- a store before a sleep
 
-pub stored : (ws : List ChainHandle) (q : QueueState) (wanted : Bool) (store : Option NotificationStore)
+pub stored : (qs : List QueueState) (i : ℕ) (q : QueueState) (wanted : Bool) (store : Option NotificationStore)
+    → slice_get qs i ≡ Some q
     → option_map store_of store ≡ notification_store q wanted → StoresNotice q wanted store
-    → (page_size k : ℕ)
-    → Drives page_size ws ws q q (call_of k (does.Notify wanted) (gives.Store store) ∷ [])
-unfolding Drives StoresNotice
-stored ws q wanted store is stores page_size k zs calls s i os pops push all =
-    let z = single zs (call_of k (does.Notify wanted) (gives.Store store)) calls in
-    let d : Desk = desk s ws q os pops push in
-    let run : LiveRun any_files s (storing i s.places store) s = by_store store (stores s i all.queue) in (
+    → (on : List ℕ) (page_size k : ℕ) (ws : List ChainHandle)
+    → Drives on page_size ws ws qs qs (call_of k (does.Notify i wanted) (gives.Store store) ∷ [])
+unfolding StoresNotice
+stored qs i q wanted store there is stores on page_size k ws =
+    one_of_queue on page_size k ws ws qs qs (does.Notify i wanted) (gives.Store store)
+    (λ s os pops pushes all. (
       storing i s.places store,
       s,
       os,
       pops,
-      push,
-      run,
+      pushes,
+      by_store s store (stores s i (all.queues i q there)),
       all,
-      subst (λ (l : List Seen). ReportsAll i page_size d l (storing i s.places store) d) (sym z.1) (
-        storing i s.places store,
-        [],
-        d,
-        sym (append-nil (storing i s.places store)),
-        (run, all),
-        inr (inr (is, refl, refl)),
-        (refl, refl),
-      ),
-    )
+      (q, there, is, refl, refl),
+    ))
   where
-    by_reach : (st : NotificationStore) (b : Bool) → reach s.places Write st.address 2 ≡ b →
+    by_reach : (s : Machine) (st : NotificationStore) (b : Bool) → reach s.places Write st.address 2 ≡ b →
         NotificationIs s i q wanted (Some st) →
         LiveRun any_files s (if b then StoresNotification i (store_of st) ∷ [] else []) s
-    by_reach st true mapped is = (s, is.0 mapped, refl)
-    by_reach st false mapped is = refl
+    by_reach s st true mapped is = (s, is.0 mapped, refl)
+    by_reach s st false mapped is = refl
 
-    by_store : (st : Option NotificationStore) → NotificationIs s i q wanted st →
+    by_store : (s : Machine) (st : Option NotificationStore) → NotificationIs s i q wanted st →
         LiveRun any_files s (storing i s.places st) s
-    by_store None is = refl
-    by_store (Some st) is = by_reach st (reach s.places Write st.address 2) refl is
+    by_store s None is = refl
+    by_store s (Some st) is = by_reach s st (reach s.places Write st.address 2) refl is
+
+pub no_queue_to_notify : (qs : List QueueState) (i : ℕ) (wanted : Bool) → length qs ≤ i
+    → (on : List ℕ) (page_size k : ℕ) (ws : List ChainHandle)
+    → Drives on page_size ws ws qs qs (call_of k (does.Notify i wanted) gives.NoQueue ∷ [])
+no_queue_to_notify qs i wanted past on page_size k ws =
+    none_of_queue on page_size k ws qs (does.Notify i wanted) gives.NoQueue
+    (λ s os pops pushes. (nowhere qs i past, refl, refl))
 
 pub no_store_of_one : (old new : ChainHandle) (q : QueueState) → new ≡ old
-    → (page_size : ℕ) (wanted : Bool)
-    → DrivesOne page_size old new q q (does.Notify wanted) gives.NotOfOne
-no_store_of_one old new q same page_size wanted =
-    refuses page_size old new q (does.Notify wanted) gives.NotOfOne (same_held old new same)
-    (λ i k d d' u is now. (refl, (same, now ∙ sym is)))
+    → (page_size i : ℕ) (wanted : Bool)
+    → DrivesOne page_size old new q q (does.Notify i wanted) gives.NotOfOne
+no_store_of_one old new q same page_size i wanted =
+    refuses page_size old new q (does.Notify i wanted) gives.NotOfOne (same_held old new same)
+    (λ n k d d' u. (refl, (same, refl)))

@@ -1,11 +1,11 @@
 -- A driver's commands from new handles on, for a program that performs them.
 use Rattle.std.specs.Prelude.{◌≡◌, ◌≤◌, ◌^◌, ℕ, List, [], ◌∷◌, None}
 use Rattle.fs_regions.specs.Places.{Mapped, places_in}
-use Rattle.fs_chain.specs.Holds.{IsQueue, Machine}
+use Rattle.fs_chain.specs.Holds.{Machine}
 use Rattle.fs_chain.specs.declared.chain_handle.ChainHandle.{ChainHandle}
 use Rattle.fs_chain.specs.declared.queue.QueueState.{QueueState}
 use Rattle.fs_chain.specs.declared.state.ChainState.TheVariants as at
-use Rattle.fs_driven.specs.Desks.{Leads, desk, no_pop}
+use Rattle.fs_driven.specs.Desks.{AreQueues, Leads, desk, no_pop}
 use Rattle.fs_driven.specs.Reported.{Called, ReportsAll, Unseen, seen_of}
 
 -- a free handle over this memory, with this limit
@@ -15,14 +15,14 @@ IsNew regions limit w =
 
 -- calls of two new handles are a run from any state over their memory in which no chain is in flight, and the
 -- run's events are theirs
-unfoldable pub RunsFromNew : (page_size limit : ℕ) → (first second : Mapped) → (q q' : QueueState) →
-    (ws : List ChainHandle) → List Called → Type 0
-RunsFromNew page_size limit first second q q' ws calls =
+unfoldable pub RunsFromNew : (on : List ℕ) → (page_size limit : ℕ) → (first second : Mapped) →
+    (qs qs' : List QueueState) → (ws : List ChainHandle) → List Called → Type 0
+RunsFromNew on page_size limit first second qs qs' ws calls =
     (zs : List (Called × Unseen)) →
     seen_of zs ≡ calls →
-    (s : Machine) (i : ℕ) →
+    (s : Machine) →
     s.chains ≡ [] →
-    IsQueue s i q →
+    AreQueues s qs →
     s.page_size ≡ page_size →
     s.limit ≡ limit →
     s.places ≡ places_in first →
@@ -31,5 +31,5 @@ RunsFromNew page_size limit first second q q' ws calls =
     × (other : ChainHandle)
     × IsNew first limit one
     × IsNew second limit other
-    × Leads s i page_size q' ws
-    (λ es d. ReportsAll i page_size (desk s (one ∷ other ∷ []) q [] (λ _. no_pop) None) zs es d)
+    × Leads s on page_size qs' ws
+    (λ es d. ReportsAll on page_size (desk s (one ∷ other ∷ []) qs [] (λ _. no_pop) (λ _. None)) zs es d)

@@ -1,7 +1,8 @@
--- A driver of several handles over one queue of a run: its calls, one behind another, are a run of the live
--- machine, and the run's events have what the calls returned.
-use Rattle.std.specs.Prelude.{◌≡◌, ◌⊎◌, ◌≤◌, ◌<◌, ◌^◌, ◌==◌, ◌++◌, ℕ, Bool, true, false, List, [], ◌∷◌}
-use Rattle.std.specs.Prelude.{Option, Some, None, if◌then◌else◌, length, slice_get, take}
+-- A driver of several handles over several queues of a run: its calls, one behind another, are a run of the
+-- live machine, and the run's events have what the calls returned.
+use Rattle.std.specs.Prelude.{◌≡◌, ◌⊎◌, ◌≤◌, ◌<◌, ◌^◌, ◌==◌, ◌++◌, ℕ, true, false, List, [], ◌∷◌}
+use Rattle.std.specs.Prelude.{Option, Some, None, suc, if◌then◌else◌, length, slice_get, take}
+use Rattle.vm_memory_core.specs.Host.{changed_at}
 use Rattle.vm_memory.specs.Memory.{Memory}
 use Rattle.fs_queue.specs.declared.fault.ChainFault.{ChainFault}
 use Rattle.fs_queue.specs.Returning.{stores_after_reply}
@@ -33,9 +34,13 @@ own k c = record { handle = Some k; chain = c }
 abbrev pub lost : InFlightChain → Owned
 lost c = record { handle = None; chain = c }
 
--- it is one of queue i, with which nothing more is done
-abbrev pub IsLost : (i : ℕ) → InFlightChain → Type 0
-IsLost i c = (c.queue ≡ i) × (fault : Option ChainFault) × (c.phase ≡ Abandoned fault)
+-- it is one of these queues, and nothing more is done with it
+abbrev pub IsLost : List QueueState → InFlightChain → Type 0
+IsLost qs c =
+    (q : QueueState)
+    × (slice_get qs c.queue ≡ Some q)
+    × (fault : Option ChainFault)
+    × (c.phase ≡ Abandoned fault)
 
 -- a push under way: its handle, the stores that it returned, and the buffer with the reply's front
 pub record Begun : Type 0 where
@@ -80,73 +85,99 @@ FitsRun places limit q p w =
 abbrev pub with_pop : (ℕ → Pop) → ℕ → Pop → ℕ → Pop
 with_pop pops k p j = if k == j then p else pops j
 
+-- the pushes under way, once this is queue i's
+abbrev pub with_push : (ℕ → Option Begun) → ℕ → Option Begun → ℕ → Option Begun
+with_push pushes i push j = if i == j then push else pushes j
+
+-- the queues, once this is queue i
+abbrev pub with_queue : List QueueState → ℕ → QueueState → List QueueState
+with_queue qs i q = changed_at qs i (λ _. q)
+
+-- how many of these chains are of queue i
+abbrev pub number_of : ℕ → List Owned → ℕ
+number_of i [] = 0
+number_of i (o ∷ os) = if o.chain.queue == i then suc (number_of i os) else number_of i os
+
 -- at least n chains of a queue are in flight. Its numbers have 16 bits
 abbrev pub HasInFlight : LiveQueue → (n : ℕ) → Type 0
 HasInFlight w n = w.max_in_flight < 2 ^ 16 → w.next_used < 2 ^ 16 → n ≤ in_flight w
 
--- the handles hold the chains of a run, all of queue i, but those whose handle was freed, and no others. No
--- FORGET is owed
-pub record Driven (s : Machine) (i page_size : ℕ) (q : QueueState) (ws : List ChainHandle)
-    (os : List Owned) (pops : ℕ → Pop) (push : Option Begun) : Type 0 where
+-- queue i of the list is queue i of the run, which may have more
+abbrev pub AreQueues : Machine → List QueueState → Type 0
+AreQueues s qs = (i : ℕ) (q : QueueState) → slice_get qs i ≡ Some q → IsQueue s i q
+
+-- handle k's chain is of its queue, and can be pushed once its reply is known
+abbrev pub IsItsOwn : (on : List ℕ) → (page_size : ℕ) → List QueueState → (pushes : ℕ → Option Begun) →
+    (k : ℕ) → InFlightChain → state.ChainState → Type 0
+IsItsOwn on page_size qs pushes k c st =
+    (slice_get on k ≡ Some c.queue)
+    × (q : QueueState)
+    × (slice_get qs c.queue ≡ Some q)
+    × IsReady page_size k q (pushes c.queue) c st
+
+-- the handles hold the chains of a run, each those of its queue, but those whose handle was freed, and no
+-- others. `on`: the number of each handle's queue. No FORGET is owed
+pub record Driven (s : Machine) (on : List ℕ) (page_size : ℕ) (qs : List QueueState) (ws : List ChainHandle)
+    (os : List Owned) (pops : ℕ → Pop) (pushes : ℕ → Option Begun) : Type 0 where
   pub all : Together s ws os
-  pub queue : IsQueue s i q
+  pub queues : AreQueues s qs
   pub page : s.page_size ≡ page_size
   pub small : s.limit ≤ 2 ^ 31
   pub mine : (k : ℕ) (w : ChainHandle) (c : InFlightChain) → slice_get ws k ≡ Some w → In (own k c) os →
-      (c.queue ≡ i) × IsReady page_size k q push c w.state
+      IsItsOwn on page_size qs pushes k c w.state
   pub outs : (k : ℕ) (w : ChainHandle) → slice_get ws k ≡ Some w → is_out w.state ≡ true →
       (c : InFlightChain) × In (own k c) os
-  pub fits : (k : ℕ) (w : ChainHandle) → slice_get ws k ≡ Some w →
-      FitsRun s.places s.limit q (pops k) w
-  pub left : (c : InFlightChain) → In (lost c) os → IsLost i c
-  pub still : q.pushing ≡ false → push ≡ None
-  pub counts : HasInFlight (live_of q) (length os)
+  pub fits : (k : ℕ) (w : ChainHandle) (i : ℕ) (q : QueueState) → slice_get ws k ≡ Some w →
+      slice_get on k ≡ Some i → slice_get qs i ≡ Some q → FitsRun s.places s.limit q (pops k) w
+  pub left : (c : InFlightChain) → In (lost c) os → IsLost qs c
+  pub still : (i : ℕ) (q : QueueState) → slice_get qs i ≡ Some q → q.pushing ≡ false → pushes i ≡ None
+  pub counts : (i : ℕ) (q : QueueState) → slice_get qs i ≡ Some q → HasInFlight (live_of q) (number_of i os)
 
--- what a driver has of a run: its state, the handles and their queue, the chain of each handle, the loads of
--- its pop, and the push under way
+-- what a driver has of a run: its state, the handles and the queues, the chain of each handle, the loads of
+-- its pop, and the push under way of each queue
 pub record Desk : Type 0 where
   pub run : Machine
   pub handles : List ChainHandle
-  pub queue : QueueState
+  pub queues : List QueueState
   pub owned : List Owned
   pub pops : ℕ → Pop
-  pub push : Option Begun
+  pub pushes : ℕ → Option Begun
 
 abbrev pub desk :
-    Machine → List ChainHandle → QueueState → List Owned → (ℕ → Pop) → Option Begun → Desk
-desk s ws q os pops push =
-    record { run = s; handles = ws; queue = q; owned = os; pops = pops; push = push }
+    Machine → List ChainHandle → List QueueState → List Owned → (ℕ → Pop) → (ℕ → Option Begun) → Desk
+desk s ws qs os pops pushes =
+    record { run = s; handles = ws; queues = qs; owned = os; pops = pops; pushes = pushes }
 
 -- events lead to a state of which the handles hold the chains. They have what the calls returned, if T tells
 -- it
-abbrev pub Leads : Machine → (i page_size : ℕ) → QueueState → List ChainHandle →
+abbrev pub Leads : Machine → (on : List ℕ) → (page_size : ℕ) → List QueueState → List ChainHandle →
     (T : List LiveEvent → Desk → Type 0) → Type 0
-Leads s i page_size q ws T =
+Leads s on page_size qs ws T =
     (es : List LiveEvent)
     × (after : Machine)
     × (os : List Owned)
     × (pops : ℕ → Pop)
-    × (push : Option Begun)
+    × (pushes : ℕ → Option Begun)
     × LiveRun any_files s es after
-    × Driven after i page_size q ws os pops push
-    × T es (desk after ws q os pops push)
+    × Driven after on page_size qs ws os pops pushes
+    × T es (desk after ws qs os pops pushes)
 
 -- these events lead from one desk to another, where the handles hold the run's chains
-abbrev pub LeadsTo : (i page_size : ℕ) → (d d' : Desk) → List LiveEvent → Type 0
-LeadsTo i page_size d d' es =
+abbrev pub LeadsTo : (on : List ℕ) → (page_size : ℕ) → (d d' : Desk) → List LiveEvent → Type 0
+LeadsTo on page_size d d' es =
     LiveRun any_files d.run es d'.run
-    × Driven d'.run i page_size d'.queue d'.handles d'.owned d'.pops d'.push
+    × Driven d'.run on page_size d'.queues d'.handles d'.owned d'.pops d'.pushes
 
 -- ---- the beginning
 
 -- free handles over the run's memory, while no chain is in flight
 abbrev pub BeginsDriven : Type 0
 BeginsDriven =
-    (s : Machine) (i page_size : ℕ) (q : QueueState) (ws : List ChainHandle) →
+    (s : Machine) (on : List ℕ) (page_size : ℕ) (qs : List QueueState) (ws : List ChainHandle) →
     s.chains ≡ [] →
-    IsQueue s i q →
+    AreQueues s qs →
     s.page_size ≡ page_size →
     s.limit ≤ 2 ^ 31 →
     ((k : ℕ) (w : ChainHandle) → slice_get ws k ≡ Some w →
     (w.state ≡ at.Free) × (s.places ≡ places_in w.regions) × (s.limit ≡ w.limit)) →
-    Driven s i page_size q ws [] (λ _. no_pop) None
+    Driven s on page_size qs ws [] (λ _. no_pop) (λ _. None)

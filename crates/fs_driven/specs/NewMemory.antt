@@ -1,6 +1,6 @@
 -- New memory for each handle of a driver, while no chain is in flight.
-use Rattle.std.specs.Prelude.{◌≡◌, ◌⊎◌, ℕ, ◌==◌, List, [], ◌∷◌, length, Option, Some, None, Result, Ok, Err}
-use Rattle.std.specs.Prelude.{if◌then◌else◌, option_map}
+use Rattle.std.specs.Prelude.{◌≡◌, ◌⊎◌, ◌&&◌, ◌<◌, ◌^◌, ℕ, ◌==◌, Bool, true, List, [], ◌∷◌, length, Option}
+use Rattle.std.specs.Prelude.{Some, None, Result, Ok, Err, if◌then◌else◌, option_map}
 use Rattle.std.specs.Option.{option_or}
 use Rattle.vm_memory.specs.Collecting.{RegionsWereRefused, fault_of}
 use Rattle.vm_memory.specs.Layout.{Region}
@@ -28,9 +28,24 @@ abbrev pub handles_error : List ChainHandle → List Region → Option ChainErro
 handles_error [] regions = None
 handles_error (w ∷ ws) regions = option_or (handle_error w regions) (handles_error ws regions)
 
--- the same, while chains of the queue may be in flight
-abbrev pub remap_error : List ChainHandle → QueueState → List Region → Option ChainError
-remap_error ws q regions = if in_flight q == 0 then handles_error ws regions else Some error.ChainInFlight
+-- whether no chain of these queues is in flight
+abbrev pub are_idle : List QueueState → Bool
+are_idle [] = true
+are_idle (q ∷ qs) = (in_flight q == 0) && are_idle qs
+
+-- none of their chains is in flight, by numbers of 16 bits
+abbrev pub HaveNone : List QueueState → Type 0
+HaveNone [] = Unit {0}
+HaveNone (q ∷ qs) =
+    (in_flight q ≡ 0)
+    × (q.max_in_flight < 2 ^ 16)
+    × (q.next_used < 2 ^ 16)
+    × (q.next_avail < 2 ^ 16)
+    × HaveNone qs
+
+-- why they don't, while chains of the queues may be in flight
+abbrev pub remap_error : List ChainHandle → List QueueState → List Region → Option ChainError
+remap_error ws qs regions = if are_idle qs then handles_error ws regions else Some error.ChainInFlight
 
 -- a call returns the error that it has, or an allocation for n regions failed
 abbrev pub IsErrorOf : Option ChainError → (n : ℕ) → ChainError → Type 0
@@ -59,10 +74,10 @@ TakeMemory regions (old ∷ olds) (new ∷ news) = TakesMemory regions old new �
 abbrev pub RemapReports : (d d' : Desk) → List Region → Result (Unit {0}) ChainError → List LiveEvent → Type 0
 RemapReports d d' regions (Ok done) es =
     (es ≡ Remaps (places_in (untranslated regions)) ∷ [])
-    × (remap_error d.handles d.queue regions ≡ None)
+    × (remap_error d.handles d.queues regions ≡ None)
     × TakeMemory regions d.handles d'.handles
-    × (d'.queue ≡ d.queue)
+    × (d'.queues ≡ d.queues)
     × (d.owned ≡ [])
     × (d'.owned ≡ [])
 RemapReports d d' regions (Err e) es =
-    (es ≡ []) × (d' ≡ d) × IsErrorOf (remap_error d.handles d.queue regions) (length regions) e
+    (es ≡ []) × (d' ≡ d) × IsErrorOf (remap_error d.handles d.queues regions) (length regions) e

@@ -2,7 +2,7 @@
 -- handle and the queue. A refused call has none, and changes nothing.
 use Rattle.std.specs.Prelude.{◌≡◌, ◌⊎◌, ◌≤◌, ◌-◌, ◌==◌, ℕ, zero, suc, Bool, true, false, List, [], ◌∷◌, ◌++◌}
 use Rattle.std.specs.Prelude.{Option, Some, None, Result, Ok, Err, length, drop, take, slice_get}
-use Rattle.std.specs.Prelude.{All, if◌then◌else◌, option_map}
+use Rattle.std.specs.Prelude.{filter, if◌then◌else◌, not, option_map}
 use Rattle.vm_memory.specs.Memory.{Memory, reach}
 use Rattle.vm_iotlb.specs.declared.permissions.Permissions.TheVariants.{Write}
 use Rattle.fs_queue.specs.declared.layout.QueueLayout.{QueueLayout}
@@ -28,7 +28,7 @@ use Rattle.fs_chain.specs.Ahead.{PopsAhead, ahead_error}
 use Rattle.fs_chain.specs.AheadSteps.{AddsAhead}
 use Rattle.fs_chain.specs.Answers.{IfWaits, IsGiven, IsNotTaken}
 use Rattle.fs_chain.specs.Decoding.{IfUndecoded, ReportsMeaning, wanted_after, wanted_by}
-use Rattle.fs_driven.specs.Desks.{Begun, Desk, Driven, In, Leads, LeadsTo, desk, lost, own}
+use Rattle.fs_driven.specs.Desks.{Begun, Desk, Driven, In, Leads, LeadsTo, desk, lost, own, with_queue}
 use Rattle.fs_chain.specs.Holds.{Machine, Pop, calls_decoded, live_of, served_so}
 use Rattle.fs_chain.specs.Listings.{EndsByEntries, EndsByError}
 use Rattle.fs_chain.specs.Loads.{IsSame, ProceedsSo, RefusesWalk, whole}
@@ -110,7 +110,8 @@ abbrev pub data_of : made_answer.FileAnswer → Unseen → List ℕ
 data_of (value.Bytes len) u = exactly len u.bytes
 data_of _ u = []
 
--- a call of handle `handle`, for queue `queue` of the run: the desk before and after it, and the handle
+-- a call of handle `handle`, for queue `queue` of the run: the desk before and after it, the handle, and the
+-- queue
 pub record Turn : Type 0 where
   pub queue : ℕ
   pub page_size : ℕ
@@ -119,24 +120,36 @@ pub record Turn : Type 0 where
   pub new : Desk
   pub was : ChainHandle
   pub now : ChainHandle
+  pub before : QueueState
+  pub after : QueueState
 
-abbrev pub turn : (i page_size k : ℕ) → (d d' : Desk) → (w w' : ChainHandle) → Turn
-turn i page_size k d d' w w' =
-    record { queue = i; page_size = page_size; handle = k; old = d; new = d'; was = w; now = w' }
+abbrev pub turn : (i page_size k : ℕ) → (d d' : Desk) → (w w' : ChainHandle) → (q q' : QueueState) → Turn
+turn i page_size k d d' w w' q q' =
+    record {
+      queue = i;
+      page_size = page_size;
+      handle = k;
+      old = d;
+      new = d';
+      was = w;
+      now = w';
+      before = q;
+      after = q';
+    }
 
 -- a refused call changes neither its handle nor the queue
 abbrev pub ChangesNothing : Turn → Type 0
-ChangesNothing t = IsSame t.was t.now × (t.new.queue ≡ t.old.queue)
+ChangesNothing t = IsSame t.was t.now × (t.after ≡ t.before)
 
 -- nor does a call that isn't made
 abbrev pub IsNotMade : Turn → Type 0
-IsNotMade t = (t.now ≡ t.was) × (t.new.queue ≡ t.old.queue)
+IsNotMade t = (t.now ≡ t.was) × (t.after ≡ t.before)
 
 -- of the handle only the chain's state and the session change, and the queue stays
 abbrev pub ChangesSession : Turn → Type 0
 ChangesSession t =
     (IsAllBut t.was t.now × (t.now.descriptors ≡ t.was.descriptors) × (t.now.part ≡ t.was.part))
-    × (t.new.queue ≡ t.old.queue)
+    × (t.after ≡ t.before)
 
 -- ---- pops
 
@@ -145,7 +158,7 @@ ChangesSession t =
 abbrev pub IsLoadedBy : state.ChainState → Turn → (bytes : List ℕ) → walked.PopOutcome → Loaded → Type 0
 IsLoadedBy at.Free t bytes reported loaded = loaded ≡ nothing
 IsLoadedBy st t bytes reported loaded =
-    t.old.queue.stopped ≡ None →
+    t.before.stopped ≡ None →
     AddsSo st (outcomes.On reported) t.now.descriptors.items (t.old.pops t.handle).loaded (whole t.was bytes)
     loaded
 
@@ -166,11 +179,11 @@ PopReports t loaded (shows.Faulty head fault) es =
 
 abbrev pub ReportsPop : Turn → (bytes : List ℕ) → Result outcome.LoadOutcome ChainError → List LiveEvent
     → Type 0
-ReportsPop t bytes (Err e) es = (es ≡ []) × ChangesNothing t × RefusesWalk t.was t.old.queue bytes e
+ReportsPop t bytes (Err e) es = (es ≡ []) × ChangesNothing t × RefusesWalk t.was t.before bytes e
 ReportsPop t bytes (Ok outcomes.Part) es =
-    (es ≡ []) × ProceedsSo t.was t.old.queue bytes outcomes.Part t.now t.new.queue
+    (es ≡ []) × ProceedsSo t.was t.before bytes outcomes.Part t.now t.after
 ReportsPop t bytes (Ok (outcomes.On reported)) es =
-    ProceedsSo t.was t.old.queue bytes (outcomes.On reported) t.now t.new.queue
+    ProceedsSo t.was t.before bytes (outcomes.On reported) t.now t.after
     × (loaded : Loaded)
     × IsLoadedBy t.was.state t bytes reported loaded
     × PopReports t loaded reported es
@@ -179,11 +192,11 @@ ReportsPop t bytes (Ok (outcomes.On reported)) es =
 abbrev pub ReportsAhead : Turn → List AheadBytes → Result walked.PopOutcome ChainError → List LiveEvent
     → Type 0
 ReportsAhead t ahead (Err e) es =
-    (es ≡ []) × ChangesNothing t × (ahead_error t.was.state t.old.queue ≡ Some e)
+    (es ≡ []) × ChangesNothing t × (ahead_error t.was.state t.before ≡ Some e)
 ReportsAhead t ahead (Ok reported) es =
-    (pop : PopsAhead ahead t.was t.now t.old.queue t.new.queue (outcomes.On reported))
+    (pop : PopsAhead ahead t.was t.now t.before t.after (outcomes.On reported))
     × (loaded : Loaded)
-    × AddsAhead (last_first pop.first []) t.was t.now t.old.queue t.new.queue (outcomes.On reported) pop.walks
+    × AddsAhead (last_first pop.first []) t.was t.now t.before t.after (outcomes.On reported) pop.walks
     loaded
     × PopReports t loaded reported es
 
@@ -254,7 +267,7 @@ ReportsReply t serial len u (Err e) es =
 ReportsReply t serial len u (Ok done) es =
     (own_error t.was.state t.was.serial serial len ≡ None)
     × IfUnanswered t.was.state (λ out. t.now ≡ record (t.was) { state = at.HasReply out (own_reply len) })
-    × (t.new.queue ≡ t.old.queue)
+    × (t.after ≡ t.before)
     × (c : InFlightChain)
     × In (own t.handle c) t.old.owned
     × (es ≡ RepliesOwnBytes c (replied_to c.phase u (asked_len_of t.was.state)) (exactly len u.bytes)
@@ -277,7 +290,7 @@ ReportsListing t serial answer Replies (Ok len) es =
     × (c.phase ≡ Asked request options [])
     × (es ≡ ReceivesAnswer c call answer ∷ [])
     × IsAllButPlace t.was t.now
-    × (t.new.queue ≡ t.old.queue)
+    × (t.after ≡ t.before)
     × Replies (Ok len)
 
 -- an entry, or the end of a listing, is refused
@@ -296,7 +309,7 @@ GatherReports t serial entries names failure added last (Err e) list es =
     (es ≡ [])
     × (added ≡ 0)
     × IsSameHeld t.was t.now
-    × (t.new.queue ≡ t.old.queue)
+    × (t.after ≡ t.before)
     × RefusesEntries t.was t.now serial list entries names failure last e
 GatherReports t serial entries names failure added last (Ok len) list es =
     let left = drop added (all_brought entries names) in
@@ -326,31 +339,31 @@ abbrev pub ReportsPush : Turn → Result PushStores ChainError → (front : List
 ReportsPush t (Err e) front es =
     (es ≡ [])
     × ChangesNothing t
-    × (push_error (has_ring t.was.state t.was.regions) t.was.state t.old.queue (length front) ≡ Some e)
+    × (push_error (has_ring t.was.state t.was.regions) t.was.state t.before (length front) ≡ Some e)
 ReportsPush t (Ok stores) front es =
     (es ≡ [])
-    × (return_error t.was.state t.old.queue (length front) ≡ None)
-    × IfHasReply t.was.state (λ out reply. PushesBy t.old.queue out reply stores
+    × (return_error t.was.state t.before (length front) ≡ None)
+    × IfHasReply t.was.state (λ out reply. PushesBy t.before out reply stores
     × ((behind : List ℕ) × (front ≡ front_of reply ++ behind))
     × (t.now ≡ record (t.was) { state = at.Pushing out }))
-    × (t.new.queue ≡ record (t.old.queue) { pushing = true })
-    × (t.new.push ≡ Some (record { handle = t.handle; stores = stores; front = front }))
+    × (t.after ≡ record (t.before) { pushing = true })
+    × (t.new.pushes t.queue ≡ Some (record { handle = t.handle; stores = stores; front = front }))
 
 -- a push ends: its stores are those that its begin returned, and its reply begins with that front
 abbrev pub ReportsPushed : Turn → (seen : List ℕ) → Unseen → Result Bool ChainError → List LiveEvent → Type 0
 ReportsPushed t seen u (Err e) es =
-    (es ≡ []) × ChangesNothing t × (end_error t.was.state t.old.queue ≡ Some e)
+    (es ≡ []) × ChangesNothing t × (end_error t.was.state t.before ≡ Some e)
 ReportsPushed t seen u (Ok notice) es =
     (c : InFlightChain)
     × (x : Exchange)
     × (b : Begun)
     × In (own t.handle c) t.old.owned
-    × (t.old.push ≡ Some b)
+    × (t.old.pushes t.queue ≡ Some b)
     × (b.handle ≡ t.handle)
     × ((behind : List ℕ) × (x.reply ≡ take b.stores.front_len b.front ++ behind))
     × (es ≡ PushesChain c x notice u.last (stores_of b.stores.used) seen ∷ [])
     × (t.now ≡ freed t.was)
-    × (t.new.queue ≡ gave t.old.queue)
+    × (t.after ≡ gave t.before)
 
 abbrev pub GiveUpReports : Turn → (is_out : Bool) → List LiveEvent → Type 0
 GiveUpReports t false es = es ≡ []
@@ -358,11 +371,11 @@ GiveUpReports t true es = (c : InFlightChain) × In (own t.handle c) t.old.owned
 
 abbrev pub ReportsGiveUp : Turn → Result (Unit {0}) ChainError → List LiveEvent → Type 0
 ReportsGiveUp t (Err e) es =
-    (es ≡ []) × ChangesNothing t × (give_up_error t.was.state t.old.queue ≡ Some e)
+    (es ≡ []) × ChangesNothing t × (give_up_error t.was.state t.before ≡ Some e)
 ReportsGiveUp t (Ok done) es =
-    (give_up_error t.was.state t.old.queue ≡ None)
+    (give_up_error t.was.state t.before ≡ None)
     × (t.now ≡ freed t.was)
-    × (t.new.queue ≡ (if is_out t.was.state then gave_up t.old.queue else t.old.queue))
+    × (t.after ≡ (if is_out t.was.state then gave_up t.before else t.before))
     × GiveUpReports t (is_out t.was.state) es
 
 -- a handle is freed: its chain stays in flight, without a handle
@@ -376,7 +389,7 @@ AbandonReports t true es =
 
 abbrev pub ReportsAbandon : Turn → List LiveEvent → Type 0
 ReportsAbandon t es =
-    IsFreed t.was t.now × (t.new.queue ≡ t.old.queue) × AbandonReports t (is_out t.was.state) es
+    IsFreed t.was t.now × (t.after ≡ t.before) × AbandonReports t (is_out t.was.state) es
 
 -- ---- each call
 
@@ -402,41 +415,51 @@ Reports t does.Push u (gives.Began r front) es = ReportsPush t r front es
 Reports t (does.Pushed seen) u (gives.Ended r) es = ReportsPushed t seen u r es
 Reports t does.GiveUp u (gives.GaveUp r) es = ReportsGiveUp t r es
 Reports t does.Abandon u gives.Abandoned es = ReportsAbandon t es
-Reports t (does.Reset layout position) u gives.NotOfOne es = (es ≡ []) × IsNotMade t
-Reports t (does.Notify wanted) u gives.NotOfOne es = (es ≡ []) × IsNotMade t
+Reports t (does.Reset i layout position) u gives.NotOfOne es = (es ≡ []) × IsNotMade t
+Reports t (does.Notify i wanted) u gives.NotOfOne es = (es ≡ []) × IsNotMade t
 Reports t (does.Remap alloc regions) u gives.NotOfOne es = (es ≡ []) × IsNotMade t
 Reports t (does.Move alloc regions) u gives.NotOfOne es = (es ≡ []) × IsNotMade t
 Reports t _ u _ es = ⊥
 
--- a call of a handle is a step of the run, among any other handles, whatever it doesn't see
+-- a call of a handle of a queue is a step of the run, among any other handles and queues, whatever it doesn't
+-- see
 unfoldable pub DrivesOne : (page_size : ℕ) → (w new : ChainHandle) → (q q' : QueueState) →
     Command → Returned → Type 0
 DrivesOne page_size w new q q' command returned =
     (ws : List ChainHandle) (k : ℕ) → slice_get ws k ≡ Some w →
-    (u : Unseen) (s : Machine) (i : ℕ) (os : List Owned) (pops : ℕ → Pop) (push : Option Begun) →
-    Driven s i page_size q ws os pops push →
-    Leads s i page_size q' (with_handle ws k new)
-    (λ es d. Reports (turn i page_size k (desk s ws q os pops push) d w new) command u returned es)
+    (on : List ℕ) (qs : List QueueState) (i : ℕ) → slice_get on k ≡ Some i → slice_get qs i ≡ Some q →
+    (u : Unseen) (s : Machine) (os : List Owned) (pops : ℕ → Pop) (pushes : ℕ → Option Begun) →
+    Driven s on page_size qs ws os pops pushes →
+    Leads s on page_size (with_queue qs i q') (with_handle ws k new)
+    (λ es d. Reports (turn i page_size k (desk s ws qs os pops pushes) d w new q q') command u returned es)
 
--- no handle has a chain in flight, and as many as may be in flight fit in the new layout
-abbrev pub HasNoChain : ChainHandle → Type 0
-HasNoChain w = is_out w.state ≡ false
+-- no handle of queue i has a chain in flight
+abbrev pub HaveNoChain : (on : List ℕ) → (i : ℕ) → List ChainHandle → Type 0
+HaveNoChain on i ws =
+    (k : ℕ) (w : ChainHandle) → slice_get ws k ≡ Some w → slice_get on k ≡ Some i → is_out w.state ≡ false
 
-abbrev pub MayReset : List ChainHandle → QueueState → QueueLayout → Type 0
-MayReset ws q layout = All HasNoChain ws × (1 ≤ q.max_in_flight) × (q.max_in_flight ≤ layout.size)
+-- so it is, and as many as may be in flight fit in the new layout
+abbrev pub MayReset :
+    (on : List ℕ) → (i : ℕ) → List ChainHandle → QueueState → QueueLayout → Type 0
+MayReset on i ws q layout =
+    HaveNoChain on i ws × (1 ≤ q.max_in_flight) × (q.max_in_flight ≤ layout.size)
 
--- the events of a reset: its own, by which no chain is in flight any more, also none without a handle; or
--- none, if it isn't done
-abbrev pub ResetReports :
-    (i : ℕ) → (d d' : Desk) → QueueLayout → (position : ℕ) → Bool → List LiveEvent → Type 0
-ResetReports i d d' layout position true es =
-    (es ≡ ResetsQueue i (live_of d'.queue) ∷ [])
-    × MayReset d.handles d.queue layout
-    × (d'.queue ≡ reset_to d.queue layout position)
+-- the chains of other queues
+abbrev pub of_others : (i : ℕ) → List Owned → List Owned
+of_others i os = filter (λ o. not (o.chain.queue == i)) os
+
+-- the events of a reset of queue i: its own, by which none of its chains is in flight any more, also none
+-- without a handle; or none, if it isn't done
+abbrev pub ResetReports : (on : List ℕ) → (i : ℕ) → QueueState → (d d' : Desk) → QueueLayout →
+    (position : ℕ) → Bool → List LiveEvent → Type 0
+ResetReports on i q d d' layout position true es =
+    (es ≡ ResetsQueue i (live_of (reset_to q layout position)) ∷ [])
+    × MayReset on i d.handles q layout
+    × (d'.queues ≡ with_queue d.queues i (reset_to q layout position))
     × (d'.handles ≡ d.handles)
-    × (d'.owned ≡ [])
-ResetReports i d d' layout position false es =
-    (es ≡ []) × (d' ≡ d) × (MayReset d.handles d.queue layout → ⊥)
+    × (d'.owned ≡ of_others i d.owned)
+ResetReports on i q d d' layout position false es =
+    (es ≡ []) × (d' ≡ d) × (MayReset on i d.handles q layout → ⊥)
 
 -- the event of a store that enables or disables notifications, if its address is mapped
 abbrev pub storing : (i : ℕ) → Memory → Option NotificationStore → List LiveEvent
@@ -444,55 +467,82 @@ storing i places None = []
 storing i places (Some store) =
     if reach places Write store.address 2 then StoresNotification i (store_of store) ∷ [] else []
 
--- whether a command is one of the queue, and of no handle
+-- whether a command is one of a queue, or of all, and of no handle
 abbrev pub is_of_queue : Command → Bool
-is_of_queue (does.Reset layout position) = true
-is_of_queue (does.Notify wanted) = true
+is_of_queue (does.Reset i layout position) = true
+is_of_queue (does.Notify i wanted) = true
 is_of_queue (does.Remap alloc regions) = true
 is_of_queue (does.Move alloc regions) = true
 is_of_queue _ = false
 
--- the events of a call of the queue, which is none of a handle
-abbrev pub ReportsOfQueue : (i : ℕ) → (d d' : Desk) → Command → Returned → List LiveEvent → Type 0
-ReportsOfQueue i d d' (does.Reset layout position) (gives.Reset done) es =
-    ResetReports i d d' layout position done es
-ReportsOfQueue i d d' (does.Notify wanted) (gives.Store store) es =
-    (option_map store_of store ≡ notification_store d.queue wanted)
+-- the events of a call of a queue, or of all, which is none of a handle. If there is no such queue, there are
+-- none
+abbrev pub ReportsOfQueue : (on : List ℕ) → (d d' : Desk) → Command → Returned → List LiveEvent → Type 0
+ReportsOfQueue on d d' (does.Reset i layout position) (gives.Reset done) es =
+    (q : QueueState) × (slice_get d.queues i ≡ Some q) × ResetReports on i q d d' layout position done es
+ReportsOfQueue on d d' (does.Reset i layout position) gives.NoQueue es =
+    (slice_get d.queues i ≡ None) × (es ≡ []) × (d' ≡ d)
+ReportsOfQueue on d d' (does.Notify i wanted) (gives.Store store) es =
+    (q : QueueState)
+    × (slice_get d.queues i ≡ Some q)
+    × (option_map store_of store ≡ notification_store q wanted)
     × (es ≡ storing i d.run.places store)
     × (d' ≡ d)
-ReportsOfQueue i d d' (does.Remap alloc regions) (gives.Remapped r) es = RemapReports d d' regions.now r es
-ReportsOfQueue i d d' (does.Move alloc regions) (gives.Moved r) es = MoveReports i d d' regions.now r es
-ReportsOfQueue i d d' _ _ es = ⊥
+ReportsOfQueue on d d' (does.Notify i wanted) gives.NoQueue es =
+    (slice_get d.queues i ≡ None) × (es ≡ []) × (d' ≡ d)
+ReportsOfQueue on d d' (does.Remap alloc regions) (gives.Remapped r) es =
+    RemapReports d d' regions.now r es
+ReportsOfQueue on d d' (does.Move alloc regions) (gives.Moved r) es = MoveReports d d' regions.now r es
+ReportsOfQueue on d d' _ _ es = ⊥
 
--- the events of a call of one of the handles, of none if there is no such handle, or of the queue
-abbrev pub ReportsCall : (i page_size : ℕ) → (d d' : Desk) → Called → Unseen → List LiveEvent → Type 0
-ReportsCall i page_size d d' call u es =
+-- there is no handle k, or it has no queue
+abbrev pub IsMissing : (on : List ℕ) → Desk → (k : ℕ) → Type 0
+IsMissing on d k =
+    (slice_get d.handles k ≡ None)
+    ⊎ (slice_get on k ≡ None)
+    ⊎ ((i : ℕ) × (slice_get on k ≡ Some i) × (slice_get d.queues i ≡ None))
+
+-- the call is one of handle k and its queue
+pub record IsCallOf (on : List ℕ) (page_size : ℕ) (d d' : Desk) (k : ℕ) (command : Command) (u : Unseen)
+    (returned : Returned) (es : List LiveEvent) : Type 0 where
+  pub queue : ℕ
+  pub was : ChainHandle
+  pub now : ChainHandle
+  pub before : QueueState
+  pub after : QueueState
+  pub handle : slice_get d.handles k ≡ Some was
+  pub number : slice_get on k ≡ Some queue
+  pub there : slice_get d.queues queue ≡ Some before
+  pub handles : d'.handles ≡ with_handle d.handles k now
+  pub queues : d'.queues ≡ with_queue d.queues queue after
+  pub reports : Reports (turn queue page_size k d d' was now before after) command u returned es
+
+-- the events of a call of one of the handles, of none if there is no such handle, or of a queue
+abbrev pub ReportsCall : (on : List ℕ) → (page_size : ℕ) → (d d' : Desk) → Called → Unseen →
+    List LiveEvent → Type 0
+ReportsCall on page_size d d' call u es =
     ((is_of_queue call.command ≡ false)
-    × (w : ChainHandle)
-    × (w' : ChainHandle)
-    × (slice_get d.handles call.place ≡ Some w)
-    × (d'.handles ≡ with_handle d.handles call.place w')
-    × Reports (turn i page_size call.place d d' w w') call.command u call.returned es)
+    × IsCallOf on page_size d d' call.place call.command u call.returned es)
     ⊎ ((is_of_queue call.command ≡ false)
-    × (slice_get d.handles call.place ≡ None)
+    × IsMissing on d call.place
     × (call.returned ≡ gives.NoHandle)
     × (es ≡ [])
     × (d' ≡ d))
-    ⊎ ReportsOfQueue i d d' call.command call.returned es
+    ⊎ ReportsOfQueue on d d' call.command call.returned es
 
 -- the events of calls one behind another. Those of each call lead from the desk before it to the desk after
 -- it
-abbrev pub ReportsAll :
-    (i page_size : ℕ) → (d : Desk) → List (Called × Unseen) → List LiveEvent → (d' : Desk) → Type 0
-ReportsAll i page_size d [] es d' = (es ≡ []) × (d' ≡ d)
-ReportsAll i page_size d (z ∷ zs) es d' =
+abbrev pub ReportsAll : (on : List ℕ) → (page_size : ℕ) → (d : Desk) → List (Called × Unseen) →
+    List LiveEvent → (d' : Desk) → Type 0
+ReportsAll on page_size d [] es d' = (es ≡ []) × (d' ≡ d)
+ReportsAll on page_size d (z ∷ zs) es d' =
     (first : List LiveEvent)
     × (later : List LiveEvent)
     × (mid : Desk)
     × (es ≡ first ++ later)
-    × LeadsTo i page_size d mid first
-    × ReportsCall i page_size d mid z.0 z.1 first
-    × ReportsAll i page_size mid zs later d'
+    × LeadsTo on page_size d mid first
+    × ReportsCall on page_size d mid z.0 z.1 first
+    × ReportsAll on page_size mid zs later d'
 
 -- calls, without what they don't see
 abbrev pub seen_of : List (Called × Unseen) → List Called
@@ -500,14 +550,14 @@ seen_of [] = []
 seen_of (z ∷ zs) = z.0 ∷ seen_of zs
 
 -- calls are a run, and its events are theirs, whatever they don't see
-unfoldable pub Drives : (page_size : ℕ) → (ws ws' : List ChainHandle) → (q q' : QueueState) → List Called →
-    Type 0
-Drives page_size ws ws' q q' calls =
+unfoldable pub Drives : (on : List ℕ) → (page_size : ℕ) → (ws ws' : List ChainHandle) →
+    (qs qs' : List QueueState) → List Called → Type 0
+Drives on page_size ws ws' qs qs' calls =
     (zs : List (Called × Unseen)) →
     seen_of zs ≡ calls →
-    (s : Machine) (i : ℕ) (os : List Owned) (pops : ℕ → Pop) (push : Option Begun) →
-    Driven s i page_size q ws os pops push →
-    Leads s i page_size q' ws' (λ es d. ReportsAll i page_size (desk s ws q os pops push) zs es d)
+    (s : Machine) (os : List Owned) (pops : ℕ → Pop) (pushes : ℕ → Option Begun) →
+    Driven s on page_size qs ws os pops pushes →
+    Leads s on page_size qs' ws' (λ es d. ReportsAll on page_size (desk s ws qs os pops pushes) zs es d)
 
 -- ---- lists of commands
 

@@ -1,8 +1,12 @@
-//! A driver of several handles over one queue: its calls, one behind another, are a run, whose events have
-//! what they returned.
+//! A driver of several handles over several queues: its calls, one behind another, are a run, whose events
+//! have what they returned.
 
-ghost use Rattle.std.specs.Prelude.{◌≡◌, ◌∷◌, [], ℕ, Bool, All, true, false};
-ghost use Rattle.fs_driven.specs.Reported.{Drives, DrivesOne, HasNoChain, MayReset, call_of, calls_of};
+ghost use Rattle.std.specs.Prelude.{◌≡◌, ◌∷◌, [], ℕ, Bool, List, Some, slice_get, true, false};
+ghost use Rattle.fs_chain.specs.Orders.{is_out};
+ghost use Rattle.fs_chain.specs.declared.chain_handle.ChainHandle.{ChainHandle};
+ghost use Rattle.fs_chain.specs.declared.queue.QueueState.{QueueState};
+ghost use Rattle.fs_driven.specs.Desks.{with_queue};
+ghost use Rattle.fs_driven.specs.Reported.{Drives, DrivesOne, HaveNoChain, MayReset, call_of, calls_of};
 ghost use Rattle.fs_driven.specs.declared.commands.Command.TheVariants as does;
 ghost use Rattle.fs_driven.specs.declared.commands.Returned.TheVariants as gives;
 
@@ -46,12 +50,13 @@ pub enum Command<'a> {
     Pushed([u8; 2]),
     /// Gives the chain up, or a pop.
     GiveUp,
-    /// Frees the handle, whose chain stays in flight until the queue is reset.
+    /// Frees the handle, whose chain stays in flight until its queue is reset.
     Abandon,
-    /// Resets the queue to a layout and a position. Any handle may be named.
-    Reset(QueueLayout, u16),
-    /// Enables the driver's notifications of new chains, or disables them. Any handle may be named.
-    Notify(bool),
+    /// Resets the queue with this number to a layout and a position. Any handle may be named.
+    Reset(usize, QueueLayout, u16),
+    /// Enables the driver's notifications of new chains of the queue with this number, or disables them. Any
+    /// handle may be named.
+    Notify(usize, bool),
     /// Sets the memory of each handle to these regions, of which this allocator makes copies. Any handle may
     /// be named.
     Remap(Global, &'a [MemoryRegion]),
@@ -62,8 +67,10 @@ pub enum Command<'a> {
 /// What a command returned.
 #[derive(Drop)]
 pub enum Returned<'a> {
-    /// There is no such handle.
+    /// There is no such handle, or it has no queue.
     NoHandle,
+    /// There is no such queue.
+    NoQueue,
     /// Of a pop.
     Popped(Result<LoadOutcome, ChainError>),
     /// Of a pop by loads ahead.
@@ -90,8 +97,8 @@ pub enum Returned<'a> {
     GaveUp(Result<(), ChainError>),
     /// The handle is free.
     Abandoned,
-    /// Of a reset: whether it was done. It isn't while a handle has a chain in flight, or if more chains may
-    /// be in flight than the layout has descriptors, or none.
+    /// Of a reset: whether it was done. It isn't while a handle of the queue has a chain in flight, or if
+    /// more chains may be in flight than the layout has descriptors, or none.
     Reset(bool),
     /// The store that enables notifications, or disables them.
     Store(Option<NotificationStore>),
@@ -99,7 +106,7 @@ pub enum Returned<'a> {
     Remapped(Result<(), ChainError>),
     /// Of a move.
     Moved(Result<(), ChainError>),
-    /// A command of the queue is none for one handle alone.
+    /// A command of a queue, or of all, is none for one handle alone.
     NotOfOne,
 }
 
@@ -168,7 +175,7 @@ pub fn drive_give_up(handle: &mut ChainHandle, queue: &mut QueueState) -> Result
     handle.give_up(queue)
 }
 
-/// Frees a handle. Its chain stays in flight until the queue is reset.
+/// Frees a handle. Its chain stays in flight until its queue is reset.
 #[tactic(auto, using(crate::proofs::Lost::abandoned))]
 pub fn drive_abandon(handle: &mut ChainHandle, queue: &QueueState)
     ensures step { (page_size : ℕ) → DrivesOne page_size handle.old handle.new queue.now queue.now
@@ -307,20 +314,21 @@ fn gather<'a>(
 fn no_reset_of_one<'a>(
     handle: &mut ChainHandle,
     queue: &QueueState,
+    number: usize,
     layout: QueueLayout,
     position: u16,
 ) -> Returned<'a>
     ensures step { (page_size : ℕ) → DrivesOne page_size handle.old handle.new queue.now queue.now
-        (does.Reset layout position) result }
+        (does.Reset number layout position) result }
 {
     Returned::NotOfOne
 }
 
-// Nor is a store of the queue.
+// Nor is a store of a queue.
 #[tactic(auto, using(crate::proofs::Resets::no_store_of_one))]
 fn no_store_of_one<'a>(handle: &mut ChainHandle, queue: &QueueState) -> Returned<'a>
-    ensures step { (page_size : ℕ) (wanted : Bool) →
-        DrivesOne page_size handle.old handle.new queue.now queue.now (does.Notify wanted) result }
+    ensures step { (page_size number : ℕ) (wanted : Bool) →
+        DrivesOne page_size handle.old handle.new queue.now queue.now (does.Notify number wanted) result }
 {
     Returned::NotOfOne
 }
@@ -389,94 +397,145 @@ pub fn drive_one<'a>(
             drive_abandon(handle, queue);
             Returned::Abandoned
         }
-        Command::Reset(layout, position) => no_reset_of_one(handle, queue, layout, position),
-        Command::Notify(_) => no_store_of_one(handle, queue),
+        Command::Reset(number, layout, position) => {
+            no_reset_of_one(handle, queue, number, layout, position)
+        }
+        Command::Notify(_, _) => no_store_of_one(handle, queue),
         Command::Remap(alloc, regions) => no_memory_of_one(handle, queue, alloc, regions),
         Command::Move(alloc, regions) => no_move_of_one(handle, queue, alloc, regions),
     }
 }
 
-// Whether no handle has a chain in flight.
-fn have_no_chain(handles: &[ChainHandle]) -> bool
-    ensures none { result ≡ true → All HasNoChain handles.now }
-    ensures some { result ≡ false → All HasNoChain handles.now → ⊥ }
+// Whether a handle of queue `of` has a chain of this queue in flight.
+fn has_chain_of(handle: &ChainHandle, of: usize, number: usize) -> bool
+    ensures has { result ≡ true → (of ≡ number) × (is_out handle.now.state ≡ true) }
+    ensures not { result ≡ false → of ≡ number → is_out handle.now.state ≡ false }
 {
-    for handle in handles {
-        if handle.is_out() {
+    if of == number {
+        return handle.is_out();
+    }
+    false
+}
+
+// Whether no handle of a queue has a chain in flight.
+#[tactic(auto, using(crate::proofs::Resets::none_of_handles, crate::proofs::Resets::none_of_numbers))]
+fn have_no_chain(handles: &[ChainHandle], on: &[usize], number: usize) -> bool
+    ensures none { result ≡ true → HaveNoChain on.now number handles.now }
+    ensures some { result ≡ false → HaveNoChain on.now number handles.now → ⊥ }
+{
+    let mut k = 0;
+    while k < handles.len() && k < on.len() {
+        if has_chain_of(&handles[k], on[k], number) {
             return false;
         }
+        k += 1;
     }
     true
 }
 
-// Whether the queue can be reset to a layout.
-fn may_reset(handles: &[ChainHandle], queue: &QueueState, layout: &QueueLayout) -> bool
-    ensures may { result ≡ true → MayReset handles.now queue.now layout.now }
-    ensures not { result ≡ false → MayReset handles.now queue.now layout.now → ⊥ }
+// Whether a queue can be reset to a layout.
+fn may_reset(
+    handles: &[ChainHandle],
+    on: &[usize],
+    number: usize,
+    queue: &QueueState,
+    layout: &QueueLayout,
+) -> bool
+    ensures may { result ≡ true → MayReset on.now number handles.now queue.now layout.now }
+    ensures not { result ≡ false → MayReset on.now number handles.now queue.now layout.now → ⊥ }
 {
     if queue.max_in_flight < 1 || layout.size() < queue.max_in_flight {
         return false;
     }
-    have_no_chain(handles)
+    have_no_chain(handles, on, number)
 }
 
-/// Resets the queue, while no handle has a chain in flight. Returns whether it did.
+// Resets the queue with this number, while none of its handles has a chain in flight. Returns whether it did.
 #[tactic(auto, using(crate::proofs::Resets::reset_done, crate::proofs::Resets::reset_not_done))]
-pub fn drive_reset(
+fn reset(
     handles: &[ChainHandle],
+    on: &[usize],
+    number: usize,
     queue: &mut QueueState,
     layout: QueueLayout,
     position: u16,
 ) -> bool
-    ensures step { (page_size k : ℕ) → Drives page_size handles.now handles.now queue.old queue.new
-        (call_of k (does.Reset layout position) (gives.Reset result) ∷ []) }
+    ensures step { (page_size k : ℕ) (qs : List QueueState) → slice_get qs number ≡ Some queue.old
+        → Drives on.now page_size handles.now handles.now qs (with_queue qs number queue.new)
+        (call_of k (does.Reset number layout position) (gives.Reset result) ∷ []) }
 {
-    if may_reset(handles, queue, &layout) {
+    if may_reset(handles, on, number, queue, &layout) {
         queue.reset(layout, position);
         return true;
     }
     false
 }
 
-/// The store that enables the driver's notifications of new chains, or disables them.
-#[tactic(auto, using(crate::proofs::Resets::stored))]
-pub fn drive_notify(
+/// Resets a queue, if there is one with this number and none of its handles has a chain in flight.
+#[tactic(auto, using(crate::proofs::Resets::no_queue_to_reset))]
+pub fn drive_reset<'a>(
     handles: &[ChainHandle],
-    queue: &QueueState,
-    wanted: bool,
-) -> Option<NotificationStore>
-    ensures step { (page_size k : ℕ) → Drives page_size handles.now handles.now queue.now queue.now
-        (call_of k (does.Notify wanted) (gives.Store result) ∷ []) }
+    queues: &mut [QueueState],
+    on: &[usize],
+    number: usize,
+    layout: QueueLayout,
+    position: u16,
+) -> Returned<'a>
+    ensures step { (page_size k : ℕ) →
+        Drives on.now page_size handles.now handles.now queues.old queues.new
+        (call_of k (does.Reset number layout position) result ∷ []) }
 {
-    queue.notification_store(wanted)
+    if number < queues.len() {
+        return Returned::Reset(reset(handles, on, number, &mut queues[number], layout, position));
+    }
+    Returned::NoQueue
 }
 
-/// Performs a command for one of several handles, and returns what it returned.
-#[tactic(auto, using(crate::proofs::Lists::no_place))]
+/// The store that enables the driver's notifications of new chains of a queue, or disables them, if there is
+/// a queue with this number.
+#[tactic(auto, using(crate::proofs::Resets::stored, crate::proofs::Resets::no_queue_to_notify))]
+pub fn drive_notify<'a>(queues: &[QueueState], number: usize, wanted: bool) -> Returned<'a>
+    ensures step { (on : List ℕ) (page_size k : ℕ) (ws : List ChainHandle) →
+        Drives on page_size ws ws queues.now queues.now (call_of k (does.Notify number wanted) result ∷ []) }
+{
+    if number < queues.len() {
+        return Returned::Store(queues[number].notification_store(wanted));
+    }
+    Returned::NoQueue
+}
+
+/// Performs a command for one of several handles, and returns what it returned. `on`: the number of each
+/// handle's queue.
+#[tactic(auto, using(crate::proofs::Lists::no_place, crate::proofs::Lists::no_number, crate::proofs::Lists::no_queue))]
 pub fn drive<'a>(
     handles: &mut [ChainHandle],
     k: usize,
-    queue: &mut QueueState,
+    queues: &mut [QueueState],
+    on: &[usize],
     page_size: u32,
     command: &mut Command<'a>,
 ) -> Returned<'a>
-    ensures step { Drives page_size handles.old handles.new queue.old queue.new
+    ensures step { Drives on.now page_size handles.old handles.new queues.old queues.new
         (call_of k command.old result ∷ []) }
 {
-    if let Command::Reset(layout, position) = command {
-        return Returned::Reset(drive_reset(handles, queue, *layout, *position));
+    if let Command::Reset(number, layout, position) = command {
+        return drive_reset(handles, queues, on, *number, *layout, *position);
     }
-    if let Command::Notify(wanted) = command {
-        return Returned::Store(drive_notify(handles, queue, *wanted));
+    if let Command::Notify(number, wanted) = command {
+        return drive_notify(queues, *number, *wanted);
     }
     if let Command::Remap(alloc, regions) = command {
-        return Returned::Remapped(drive_remap(*alloc, handles, queue, regions));
+        return Returned::Remapped(drive_remap(*alloc, handles, queues, regions));
     }
     if let Command::Move(alloc, regions) = command {
-        return Returned::Moved(drive_move(*alloc, handles, queue, regions));
+        return Returned::Moved(drive_move(*alloc, handles, queues, regions));
     }
-    if k < handles.len() {
-        return drive_one(&mut handles[k], queue, page_size, command);
+    if k >= handles.len() || k >= on.len() {
+        return Returned::NoHandle;
+    }
+    let number = on[k];
+    if number < queues.len() {
+        return drive_one(&mut handles[k], &mut queues[number], page_size, command);
     }
     Returned::NoHandle
 }
@@ -485,31 +544,33 @@ pub fn drive<'a>(
 fn perform<'a>(
     handles: &mut [ChainHandle],
     k: usize,
-    queue: &mut QueueState,
+    queues: &mut [QueueState],
+    on: &[usize],
     page_size: u32,
     command: &mut Command<'a>,
     returned: &mut Returned<'a>,
 )
-    ensures step { Drives page_size handles.old handles.new queue.old queue.new
+    ensures step { Drives on.now page_size handles.old handles.new queues.old queues.new
         (call_of k command.old returned.new ∷ []) }
 {
-    let reported = drive(handles, k, queue, page_size, command);
+    let reported = drive(handles, k, queues, on, page_size, command);
     let _old = mem::replace(returned, reported);
 }
 
 /// Performs commands one behind another, each for the handle in its place, and keeps what each returned: a
-/// run of the live machine, whose events are those of the calls by what they returned. It ends with the
-/// shortest of the three lists.
+/// run of the live machine, whose events are those of the calls by what they returned. `on`: the number of
+/// each handle's queue. It ends with the shortest of the last three lists.
 #[tactic(auto, using(crate::proofs::End::places, crate::proofs::End::commands, crate::proofs::End::results))]
 pub fn drive_all<'a>(
     handles: &mut [ChainHandle],
-    queue: &mut QueueState,
+    queues: &mut [QueueState],
+    on: &[usize],
     page_size: u32,
     places: &[usize],
     commands: &mut [Command<'a>],
     returned: &mut [Returned<'a>],
 )
-    ensures step { Drives page_size handles.old handles.new queue.old queue.new
+    ensures step { Drives on.now page_size handles.old handles.new queues.old queues.new
         (calls_of places.now commands.old returned.new) }
 {
     let mut n = 0;
@@ -517,7 +578,8 @@ pub fn drive_all<'a>(
         perform(
             handles,
             places[n],
-            queue,
+            queues,
+            on,
             page_size,
             &mut commands[n],
             &mut returned[n],

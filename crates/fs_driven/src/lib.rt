@@ -1,5 +1,5 @@
-//! A driver of several handles over one queue: any sequence of its calls is a run of the live machine, and
-//! the run's events have what the calls returned.
+//! A driver of several handles over several queues: any sequence of its calls is a run of the live machine,
+//! and the run's events have what the calls returned.
 #![tactic(auto)]
 
 mod commands;

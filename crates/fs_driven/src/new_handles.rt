@@ -32,7 +32,8 @@ pub fn drive_new<'a>(
     alloc: Global,
     memories: (GuestMap, GuestMap),
     limit: u32,
-    queue: &mut QueueState,
+    queues: &mut [QueueState],
+    on: &[usize],
     page_size: u32,
     places: &[usize],
     commands: &mut [Command<'a>],
@@ -40,16 +41,24 @@ pub fn drive_new<'a>(
 ) -> Result<[ChainHandle; 2], ChainError>
     ensures error { IfErr result (λ e. memory_error at.Free limit ≡ Some e) }
     ensures ok { OnOk result (memory_error at.Free limit ≡ None) }
-    ensures same { OnErr result ((queue.new ≡ queue.old)
+    ensures same { OnErr result ((queues.new ≡ queues.old)
         × (commands.new ≡ commands.old)
         × (returned.new ≡ returned.old)) }
-    ensures run { IfOk result (λ handles. RunsFromNew page_size limit memories.0 memories.1
-        queue.old queue.new handles (calls_of places.now commands.old returned.new)) }
+    ensures run { IfOk result (λ handles. RunsFromNew on.now page_size limit memories.0 memories.1
+        queues.old queues.new handles (calls_of places.now commands.old returned.new)) }
 {
     let one = new_handle(alloc, memories.0, limit)?;
     let other = new_handle(alloc, memories.1, limit)?;
     let mut handles = [one, other];
     law_driven();
-    drive_all(&mut handles, queue, page_size, places, commands, returned);
+    drive_all(
+        &mut handles,
+        queues,
+        on,
+        page_size,
+        places,
+        commands,
+        returned,
+    );
     Ok(handles)
 }

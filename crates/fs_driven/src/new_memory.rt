@@ -1,10 +1,10 @@
 //! New memory for each handle of a driver, or for none; and the move of a device.
 
-ghost use Rattle.std.specs.Prelude.{◌≡◌, ◌∷◌, [], ℕ, None, IfErr, IfOk, OnErr, OnOk, false, length, true};
+ghost use Rattle.std.specs.Prelude.{◌≡◌, ◌∷◌, [], ℕ, List, None, IfErr, IfOk, OnErr, OnOk, length, map, true};
 ghost use Rattle.fs_regions.specs.Places.{untranslated};
-ghost use Rattle.fs_chain.specs.Queues.{in_flight};
-ghost use Rattle.fs_driven.specs.Moving.{HasMaximum, restored};
-ghost use Rattle.fs_driven.specs.NewMemory.{IsErrorOf, TakeMemory, handles_error, regions_error, remap_error};
+ghost use Rattle.fs_driven.specs.Moving.{have_valid_maximum, restored};
+ghost use Rattle.fs_driven.specs.NewMemory.{HaveNone, IsErrorOf, TakeMemory, are_idle, handles_error};
+ghost use Rattle.fs_driven.specs.NewMemory.{regions_error, remap_error};
 ghost use Rattle.fs_driven.specs.Reported.{Drives, call_of};
 ghost use Rattle.fs_driven.specs.declared.commands.Command.TheVariants as does;
 ghost use Rattle.fs_driven.specs.declared.commands.Returned.TheVariants as gives;
@@ -72,111 +72,129 @@ fn set_each(
     }
 }
 
-// The same while no chain of the queue is in flight.
+// Whether no chain of these queues is in flight.
+fn are_idle(queues: &[QueueState]) -> bool
+    ensures is { result ≡ are_idle queues.now }
+    ensures counts { result ≡ true → HaveNone queues.now }
+{
+    match queues.split_first() {
+        None => true,
+        Some((queue, others)) => {
+            // Numbers of 16 bits.
+            let _max_in_flight = queue.max_in_flight;
+            let _next_used = queue.next_used;
+            let _next_avail = queue.next_avail;
+            queue.in_flight() == 0 && are_idle(others)
+        }
+    }
+}
+
+// The same while no chain of the queues is in flight.
 #[tactic(auto, using(crate::proofs::Remaps::busy, crate::proofs::Remaps::idle, crate::proofs::Remaps::fails))]
 fn remap(
     alloc: Global,
     handles: &mut [ChainHandle],
-    queue: &QueueState,
+    queues: &[QueueState],
     regions: &[MemoryRegion],
 ) -> Result<(), ChainError>
     ensures ok { OnOk result (TakeMemory regions.now handles.old handles.new) }
-    ensures idle { OnOk result (in_flight queue.now ≡ 0) }
-    ensures is { OnOk result (remap_error handles.old queue.now regions.now ≡ None) }
+    ensures idle { OnOk result (HaveNone queues.now) }
+    ensures is { OnOk result (remap_error handles.old queues.now regions.now ≡ None) }
     ensures err { IfErr result
-        (IsErrorOf (remap_error handles.old queue.now regions.now) (length regions.now)) }
+        (IsErrorOf (remap_error handles.old queues.now regions.now) (length regions.now)) }
     ensures same { OnErr result (handles.new ≡ handles.old) }
 {
-    if queue.in_flight() != 0 {
+    if !are_idle(queues) {
         return Err(ChainError::ChainInFlight);
     }
     set_each(alloc, handles, regions)
 }
 
-/// Sets the memory of each handle to some regions, while no chain of the queue is in flight. A handle keeps
+/// Sets the memory of each handle to some regions, while no chain of the queues is in flight. A handle keeps
 /// its limit. `ChainInFlight` if a chain is in flight or a handle isn't free; `BadArgument` if the regions
 /// aren't a memory; `OutOfMemory`. Then nothing changed.
 #[tactic(auto, using(crate::proofs::Remaps::remap_result))]
 pub fn drive_remap(
     alloc: Global,
     handles: &mut [ChainHandle],
-    queue: &QueueState,
+    queues: &[QueueState],
     regions: &[MemoryRegion],
 ) -> Result<(), ChainError>
-    ensures step { (page_size k : ℕ) → Drives page_size handles.old handles.new queue.now queue.now
+    ensures step { (on : List ℕ) (page_size k : ℕ) →
+        Drives on page_size handles.old handles.new queues.now queues.now
         (call_of k (does.Remap alloc regions.entry) (gives.Remapped result) ∷ []) }
 {
-    // Numbers of 16 bits.
-    let _max_in_flight = queue.max_in_flight;
-    let _next_used = queue.next_used;
-    remap(alloc, handles, queue, regions)
+    remap(alloc, handles, queues, regions)
 }
 
-// Resets a queue to what its record keeps: its layout, its position, and whether it is stopped.
-fn restore(queue: &mut QueueState)
-    ensures { queue.new ≡ restored queue.old }
+// Resets queues to what their record keeps: each its layout, its position, and whether it is stopped.
+fn restore(queues: &mut [QueueState])
+    ensures { queues.new ≡ map restored queues.old }
 {
-    let stopped = queue.stopped;
-    let (layout, position) = (queue.layout, queue.next_avail);
-    queue.reset(layout, position);
-    queue.stopped = stopped;
+    if let Some((queue, others)) = queues.split_first_mut() {
+        let stopped = queue.stopped;
+        let (layout, position) = (queue.layout, queue.next_avail);
+        queue.reset(layout, position);
+        queue.stopped = stopped;
+        restore(others);
+    }
 }
 
-// Moves a device, and restores its queue.
+// Moves a device, and restores its queues.
 fn move_over(
     alloc: Global,
     handles: &mut [ChainHandle],
-    queue: &mut QueueState,
+    queues: &mut [QueueState],
     regions: &[MemoryRegion],
 ) -> Result<(), ChainError>
     ensures ok { OnOk result (TakeMemory regions.now handles.old handles.new) }
-    ensures idle { OnOk result (in_flight queue.old ≡ 0) }
-    ensures is { OnOk result (remap_error handles.old queue.old regions.now ≡ None) }
-    ensures queue { OnOk result (queue.new ≡ restored queue.old) }
+    ensures idle { OnOk result (HaveNone queues.old) }
+    ensures is { OnOk result (remap_error handles.old queues.old regions.now ≡ None) }
+    ensures queues { OnOk result (queues.new ≡ map restored queues.old) }
     ensures err { IfErr result
-        (IsErrorOf (remap_error handles.old queue.old regions.now) (length regions.now)) }
-    ensures same { OnErr result ((handles.new ≡ handles.old) × (queue.new ≡ queue.old)) }
+        (IsErrorOf (remap_error handles.old queues.old regions.now) (length regions.now)) }
+    ensures same { OnErr result ((handles.new ≡ handles.old) × (queues.new ≡ queues.old)) }
 {
-    match remap(alloc, handles, queue, regions) {
+    match remap(alloc, handles, queues, regions) {
         Ok(()) => {
-            restore(queue);
+            restore(queues);
             Ok(())
         }
         Err(e) => Err(e),
     }
 }
 
-// Whether from one chain to as many as the queue has descriptors may be in flight.
-fn has_maximum(queue: &QueueState) -> bool
-    ensures has { result ≡ true → HasMaximum queue.now }
-    ensures not { result ≡ false → HasMaximum queue.now → ⊥ }
+// Whether from one chain to as many as each queue has descriptors may be in flight.
+fn have_maximum(queues: &[QueueState]) -> bool
+    ensures is { result ≡ have_valid_maximum queues.now }
 {
-    if queue.max_in_flight < 1 || queue.layout.size() < queue.max_in_flight {
-        return false;
+    match queues.split_first() {
+        None => true,
+        Some((queue, others)) => {
+            if queue.max_in_flight < 1 || queue.layout.size() < queue.max_in_flight {
+                return false;
+            }
+            have_maximum(others)
+        }
     }
-    true
 }
 
-/// Moves a device while no chain of its queue is in flight: each handle takes the new memory, and the queue
+/// Moves a device while no chain of its queues is in flight: each handle takes the new memory, and each queue
 /// is reset to the layout and the position that it has, stopped or not, as by its record. `BadArgument` if
-/// more chains may be in flight than the queue has descriptors, or none; otherwise the errors of
-/// `drive_remap`.
+/// more chains may be in flight than a queue has descriptors, or none; otherwise the errors of `drive_remap`.
 #[tactic(auto, using(crate::proofs::Moving::move_result, crate::proofs::Moving::no_maximum))]
 pub fn drive_move(
     alloc: Global,
     handles: &mut [ChainHandle],
-    queue: &mut QueueState,
+    queues: &mut [QueueState],
     regions: &[MemoryRegion],
 ) -> Result<(), ChainError>
-    ensures step { (page_size k : ℕ) → Drives page_size handles.old handles.new queue.old queue.new
+    ensures step { (on : List ℕ) (page_size k : ℕ) →
+        Drives on page_size handles.old handles.new queues.old queues.new
         (call_of k (does.Move alloc regions.entry) (gives.Moved result) ∷ []) }
 {
-    // Numbers of 16 bits.
-    let _max_in_flight = queue.max_in_flight;
-    let _next_avail = queue.next_avail;
-    let _next_used = queue.next_used;
-    if !has_maximum(queue) {
+    if !have_maximum(queues) {
         return Err(ChainError::BadArgument);
     }
-    move_over(alloc, handles, queue, regions)
+    move_over(alloc, handles, queues, regions)
 }

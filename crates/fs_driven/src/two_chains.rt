@@ -1,5 +1,5 @@
-//! Two chains of a queue by two handles, pushed in either order: commands of the driver. That they are a run
-//! of the live machine is the contract of `drive_all`.
+//! Two chains by two handles, of one queue or of two, pushed in either order: commands of the driver. That
+//! they are a run of the live machine is the contract of `drive_all`.
 
 ghost use Rattle.std.specs.Prelude.{◌∷◌, []};
 ghost use Rattle.fs_driven.specs.Reported.{Drives, calls_of};
@@ -28,7 +28,8 @@ pub struct Inputs<'a> {
 /// what each of the ten calls returned.
 pub fn serve_two<'a>(
     handles: &mut [ChainHandle],
-    queue: &mut QueueState,
+    queues: &mut [QueueState],
+    on: &[usize],
     page_size: u32,
     one: Inputs<'a>,
     other: Inputs<'a>,
@@ -36,7 +37,7 @@ pub fn serve_two<'a>(
     second: (usize, [u8; 2]),
     returned: &mut [Returned<'a>],
 )
-    ensures run { Drives page_size handles.old handles.new queue.old queue.new
+    ensures run { Drives on.now page_size handles.old handles.new queues.old queues.new
         (calls_of (0 ∷ 1 ∷ 0 ∷ 1 ∷ 0 ∷ 1 ∷ first.0 ∷ first.0 ∷ second.0 ∷ second.0 ∷ [])
         (does.PopAhead one.entry.ahead one.entry.loaded ∷ does.PopAhead other.entry.ahead other.entry.loaded
         ∷ does.Decode one.entry.session one.entry.request
@@ -57,5 +58,13 @@ pub fn serve_two<'a>(
         Command::Push,
         Command::Pushed(second.1),
     ];
-    drive_all(handles, queue, page_size, &places, &mut commands, returned);
+    drive_all(
+        handles,
+        queues,
+        on,
+        page_size,
+        &places,
+        &mut commands,
+        returned,
+    );
 }

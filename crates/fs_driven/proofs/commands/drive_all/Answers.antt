@@ -6,7 +6,7 @@ use Rattle.fs_driven.proofs.commands.drive_all.Goals as goal
 
 pub loop-n-init : goal.loop-n-init
 loop-n-init c = record {
-  so_far = none_so_far c.args.page_size c.args.handles.now c.args.queue.now c.args.places.now c.args.commands.now
+  so_far = none_so_far c.args.on.now c.args.page_size c.args.handles.now c.args.queues.now c.args.places.now c.args.commands.now
       c.args.returned.now;
 }
 
@@ -16,15 +16,15 @@ loop-n-preserved c =
     let in_places : l.n < length c.args.places.now = search rules in
     let in_commands : l.n < length l.commands = search rules in
     let in_returned : l.n < length l.returned = search rules in
-    let one : Drives c.args.page_size l.handles c.perform.new.handles l.queue c.perform.new.queue
+    let one : Drives c.args.on.now c.args.page_size l.handles c.perform.new.handles l.queues c.perform.new.queues
     (call_of (get_or c.args.places.now l.n 0) c.index-commands-n.result c.perform.new.returned ∷ []) =
     subst
-    (λ (x : Command). Drives c.args.page_size l.handles c.perform.new.handles l.queue c.perform.new.queue
+    (λ (x : Command). Drives c.args.on.now c.args.page_size l.handles c.perform.new.handles l.queues c.perform.new.queues
     (call_of (get_or c.args.places.now l.n 0) x c.perform.new.returned ∷ []))
     (sym c.index-commands-n.is) c.perform.ensures.step in
     record {
-      so_far = more_so_far c.args.page_size c.args.handles.now l.handles c.perform.new.handles c.args.queue.now l.queue
-          c.perform.new.queue c.args.places.now c.args.commands.now l.commands l.returned l.n
+      so_far = more_so_far c.args.on.now c.args.page_size c.args.handles.now l.handles c.perform.new.handles c.args.queues.now
+          l.queues c.perform.new.queues c.args.places.now c.args.commands.now l.commands l.returned l.n
           (get_or c.args.places.now l.n 0) c.index-commands-n.result c.perform.new.command c.perform.new.returned
           l.invariant.so_far in_places in_commands in_returned (number_at c.args.places.now l.n in_places)
           c.index-commands-n.is one;

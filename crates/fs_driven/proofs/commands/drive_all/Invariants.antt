@@ -4,7 +4,7 @@ use Rattle.fs_driven.proofs.commands.drive_all.Given as goal
 
 abbrev pub invariant-loop-n : goal.invariant-loop-n
 invariant-loop-n l = record {
-  so_far : SoFar l.page_size l.initial.handles l.handles l.initial.queue l.queue l.places l.initial.commands l.commands
+  so_far : SoFar l.on l.page_size l.initial.handles l.handles l.initial.queues l.queues l.places l.initial.commands l.commands
       l.returned l.n;
 }
 

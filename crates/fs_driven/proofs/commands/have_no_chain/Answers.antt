@@ -1,18 +1,21 @@
-use Rattle.std.proofs.Common.{All, List, ◌<◌, ◌≤◌, length, rules, subst}
-use Rattle.std.proofs.lemmas.List.{take_all}
-use Rattle.std.proofs.lemmas.List.Elements.{All-more}
+use Rattle.std.proofs.Common.{◌≡◌, ◌<◌, arith, false, get_or, length, rules}
+use Rattle.fs_chain.specs.Orders.{is_out}
 use Rattle.fs_chain.specs.declared.chain_handle.ChainHandle.{ChainHandle}
-use Rattle.fs_driven.specs.Reported.{HasNoChain}
+use Rattle.fs_driven.proofs.Lists.{got, number_at}
+use Rattle.fs_driven.proofs.Resets.{none_more}
 use Rattle.fs_driven.proofs.commands.have_no_chain.Goals as goal
 
-pub loop-handle-preserved : goal.loop-handle-preserved
-loop-handle-preserved c =
-    let w : ChainHandle = c.handle-item.result in
-    let less : c.loop-handle.handle-index < length c.args.handles.now = search rules in
-    All-more HasNoChain c.args.handles.now c.loop-handle.handle-index w less c.loop-handle.invariant (search rules)
+pub loop-k-init : goal.loop-k-init
+loop-k-init c = λ k w less there number. absurd (omega (arith, less))
 
-pub returns-clause-none : goal.returns-clause-none
-returns-clause-none c = λ none.
-    let past : length c.args.handles.now ≤ c.loop-handle.handle-index = search rules in
-    subst (λ (ws : List ChainHandle). All HasNoChain ws)
-    (take_all c.loop-handle.handle-index c.args.handles.now past) c.loop-handle.invariant
+pub loop-k-preserved : goal.loop-k-preserved
+loop-k-preserved c =
+    let l = c.loop-k in
+    let w : ChainHandle = c.index-handles-k.result in
+    let in_handles : l.k < length c.args.handles.now = search rules in
+    let in_numbers : l.k < length c.args.on.now = search rules in
+    let of = get_or c.args.on.now l.k 0 in
+    let free : of ≡ c.args.number → is_out w.state ≡ false = search rules in
+    none_more c.args.on.now c.args.number c.args.handles.now l.k w of l.invariant
+    (got c.args.handles.now l.k w in_handles c.index-handles-k.is)
+    (got c.args.on.now l.k of in_numbers (number_at c.args.on.now l.k in_numbers)) free

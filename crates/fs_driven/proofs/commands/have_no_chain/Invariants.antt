@@ -1,7 +1,9 @@
-use Rattle.std.proofs.Common.{All, take}
-use Rattle.fs_driven.specs.Reported.{HasNoChain}
+use Rattle.std.proofs.Common.{◌-◌, length}
+use Rattle.fs_driven.proofs.Resets.{NoneSoFar}
 use Rattle.fs_driven.proofs.commands.have_no_chain.Given as goal
 
--- each that was looked at has none
-abbrev pub invariant-loop-handle : goal.invariant-loop-handle
-invariant-loop-handle l = All HasNoChain (take l.handle-index l.handles)
+abbrev pub invariant-loop-k : goal.invariant-loop-k
+invariant-loop-k l = NoneSoFar l.on l.number l.handles l.k
+
+abbrev pub decreases-loop-k : goal.decreases-loop-k
+decreases-loop-k l = length l.handles - l.k
