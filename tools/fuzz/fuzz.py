@@ -1,11 +1,11 @@
 #!/usr/bin/env python3
-"""Plays random scripts on the script program, on the handle and on a plain machine, and compares
-what the three print.
+"""Plays random scripts on the script program, on the handle, on the driver and on a plain machine,
+and compares what the four print.
 
-usage: fuzz.py SECONDS [SEED], with the paths of built programs in PROGRAM and, if the handle is to
-be played, in HANDLE; and in CALLS the folder of the tests in C of the library, if they are
-to be played (./run --fuzz has all three). Status 0 if nothing differed, 1 if something did or no
-script with a served chain was compared whole or too many weren't played to their end, 2 if it
+usage: fuzz.py SECONDS [SEED], with the paths of built programs in PROGRAM and, if handle and driver
+are to be played, in HANDLE and DRIVER; and in CALLS the folder of the tests in C of the library, if
+they are to be played (./run --fuzz has all four). Status 0 if nothing differed, 1 if something did
+or no script with a served chain was compared whole or too many weren't played to their end, 2 if it
 couldn't begin, 130 if it was interrupted before that."""
 
 import os
@@ -244,8 +244,8 @@ def main(arguments):
         print(__doc__, file=sys.stderr)
         return 2
     say(f"seed {seed}")
-    named = [("the program", os.environ["PROGRAM"]), ("the handle", os.environ.get("HANDLE"))]
-    devices = [Device(name, path) for name, path in named if path]
+    devices = [Device(f"the {name.lower()}", os.environ[name])
+        for name in ("PROGRAM", "HANDLE", "DRIVER") if os.environ.get(name)]
     lacking = Lacking(os.environ["PROGRAM"])
     fuzzer = Fuzzer(devices, seed, time.monotonic() + seconds, lacking)
     calls = Calls(os.environ["CALLS"], seconds, seed) if os.environ.get("CALLS") else None

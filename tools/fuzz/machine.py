@@ -1,6 +1,7 @@
 """The plain machine: what a script prints, told by single addresses and whole lists. It shares
-nothing with the program. It also tells at which command the handle ends, which lacks a few, and
-the program, which hasn't the commands that only the handle has (docs/SCRIPT.md)."""
+nothing with the program. It also tells at which command the handle ends, which lacks a few, the
+driver, which lacks one, and the program, which hasn't the commands that only the handle has
+(docs/SCRIPT.md, vectors/README.md)."""
 
 import re
 from collections import Counter
@@ -297,9 +298,10 @@ class Player:
         self.began = False
         self.printed = []
         self.number = 0
-        # What the handle prints, if it ends at a command that it lacks, and the program, if it ends
-        # at one of the handle's.
+        # What handle and driver print, if they end at a command that they lack, and the program, if
+        # it ends at one of the handle's.
         self.on_handle = None
+        self.on_driver = None
         self.on_program = None
 
     def play(self, script):
@@ -319,9 +321,18 @@ class Player:
 
     def lack(self, lines=()):
         """The handle ends at this command, of which it has printed some lines."""
-        if self.on_handle is None:
-            end = f"line {self.number}: not on this device"
-            self.on_handle = text_of([*self.printed, *lines, end])
+        self.on_handle = self.on_handle or self.lacking_end(lines)
+
+    def lacking_end(self, lines=()):
+        """What is printed by a device that lacks this command."""
+        return text_of([*self.printed, *lines, f"line {self.number}: not on this device"])
+
+    def need_regions(self):
+        """Handle and driver end at this command, if they don't take the regions."""
+        if not self.machine.memory.has_whole_pages():
+            self.on_driver = self.on_driver or self.lacking_end()
+        if not self.machine.memory.fits_handle():
+            self.lack()
 
     def lack_parts(self, length, *numbers):
         """The handle maps whole pages alone."""
@@ -430,8 +441,7 @@ class Player:
         try:
             for done in range(most):
                 self.allocate(done)
-                if not self.machine.memory.fits_handle():
-                    self.lack()
+                self.need_regions()
                 step = self.machine.step(self.machine.queues[index])
                 if step is None:
                     break
@@ -461,8 +471,7 @@ class Player:
         """A queue that is served, by its number."""
         if index >= len(self.machine.queues):
             raise Refused(NO_QUEUE)
-        if not self.machine.memory.fits_handle():
-            self.lack()
+        self.need_regions()
         return self.machine.queues[index]
 
     def harvest(self):
@@ -523,11 +532,13 @@ ARGUMENTS = {
 
 
 def play(script, work=6_000_000, wrong=None):
-    """What a script prints and its status, on the program and on the handle, and what it covered. A
-    wrong device reads or writes one field wrongly (`Memory.wrong`)."""
+    """What a script prints and its status, on each device, and what it covered. A wrong device
+    reads or writes one field wrongly (`Memory.wrong`)."""
     player = Player(work)
     player.machine.memory.wrong = wrong
     whole = player.play(script)
     on_handle = whole if player.on_handle is None else (player.on_handle, LACKING)
+    on_driver = whole if player.on_driver is None else (player.on_driver, LACKING)
     on_program = whole if player.on_program is None else (player.on_program, 1)
-    return {"the program": on_program, "the handle": on_handle}, player.coverage
+    ends = {"the program": on_program, "the handle": on_handle, "the driver": on_driver}
+    return ends, player.coverage

@@ -196,8 +196,11 @@ class Memory:
 
     def fits_handle(self):
         """Whether the handle takes the regions: few, and of whole pages."""
-        return len(self.regions) <= MOST_REGIONS and not any(
-            (base | size) % PAGE for base, size, _ in self.regions)
+        return len(self.regions) <= MOST_REGIONS and self.has_whole_pages()
+
+    def has_whole_pages(self):
+        """Whether all regions are of whole pages."""
+        return not any((base | size) % PAGE for base, size, _ in self.regions)
 
     def map(self, iova, target, length, may):
         """A range of I/O addresses is mapped."""
