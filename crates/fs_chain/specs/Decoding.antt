@@ -2,6 +2,7 @@
 use Rattle.std.specs.Prelude.{◌≡◌, ℕ, min, false, nat_lt, List, length, Option, Some, None, if◌then◌else◌}
 use Rattle.fuse_fs.specs.declared.answers.Context.{Context}
 use Rattle.fuse_values.specs.declared.call.FileCall.{FileCall}
+use Rattle.fuse_values.specs.Places.{CallStandsIn}
 use Rattle.fuse_values.specs.Values.{call_of}
 use Rattle.virtiofsd_fuse.specs.Grammar.{Meaning, Asks, FileCommand}
 use Rattle.virtiofsd_fuse.specs.Serving.{Setting}
@@ -59,6 +60,11 @@ ReportsMeaning s m bytes out (reports.More wanted) preserved = preserved ≡ at.
 ReportsMeaning s m bytes out reports.Nothing preserved = KeepsReply s m bytes out preserved
 ReportsMeaning s m bytes out (reports.Fault e) preserved =
     (preserved ≡ at.HasReply out no_reply) × IsDecoded s m bytes (asked.Fault e)
+
+-- a call's names, values, pairs and label are in the request at their places
+abbrev pub ReportStandsIn : (request : List ℕ) → Decoded → Type 0
+ReportStandsIn request (reports.Call made) = CallStandsIn request made
+ReportStandsIn request _ = Unit {0}
 
 -- the call in flight keeps this context; a listing keeps none
 abbrev pub IsPreservedFor : Context → state.ChainState → Type 0

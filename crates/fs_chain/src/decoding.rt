@@ -11,9 +11,9 @@ ghost use Rattle.server_requests.specs.Reading.{record_parser};
 ghost use Rattle.virtiofsd_fuse.specs.Grammar.{Meaning, meaning};
 ghost use Rattle.virtiofsd_fuse.specs.Serving.{Setting, setting};
 ghost use Rattle.server_phases.specs.Asking.{AsksCall, HasAskerByFront, IsAskedBy, IsRequestFront, IsDecoded};
-ghost use Rattle.server_phases.specs.Asking.{IsDecodedByFront, is_decoded};
+ghost use Rattle.server_phases.specs.Asking.{DecodedStandsIn, FrontStandsIn, IsDecodedByFront, is_decoded};
 ghost use Rattle.fs_chain.specs.Decoding.{IfUndecoded, IsPreservedFor, KeepsCall, ReportsMeaning, wanted};
-ghost use Rattle.fs_chain.specs.Decoding.{wanted_after, wanted_by};
+ghost use Rattle.fs_chain.specs.Decoding.{ReportStandsIn, wanted_after, wanted_by};
 ghost use Rattle.fs_chain.specs.Holds.{Decodes};
 ghost use Rattle.fs_chain.specs.Orders.{ask_error};
 ghost use Rattle.fs_chain.specs.Walks.{IsAllBut, IsAllButPlace};
@@ -78,6 +78,8 @@ impl ChainHandle {
             → IsDecoded s m bytes asked.entry
             → ReportsMeaning s m bytes out result self.new.state }
         ensures asker { (who : Context) → IsAskedBy who asked.entry → IsPreservedFor who self.new.state }
+        ensures places { (request : List ℕ) → DecodedStandsIn request asked.entry
+            → ReportStandsIn request result }
         ensures reported { wanted_by result ≡ None }
         ensures same { IsAllButPlace self.old self.new }
         ensures list { self.new.list_len ≡ self.old.list_len }
@@ -112,6 +114,8 @@ impl ChainHandle {
             → (h : InHeader) (more : List ℕ)
             → record_parser in_header request ≡ Ok (h, more)
             → IsPreservedFor (context_of h) self.new.state }
+        ensures places { (request : List ℕ) → FrontStandsIn request asked.entry
+            → ReportStandsIn request result }
         ensures wanted { wanted_by result ≡ (if is_decoded asked.entry then None
             else Some (wanted len out.request_len)) }
         ensures same { IsAllButPlace self.old self.new }
@@ -147,6 +151,7 @@ impl ChainHandle {
             → (h : InHeader) (more : List ℕ)
             → record_parser in_header whole ≡ Ok (h, more)
             → IsPreservedFor (context_of h) self.new.state) }
+        ensures places { IfOk result (ReportStandsIn request.now) }
         ensures wanted { IfOk result (λ reported. wanted_by reported ≡ wanted_after request.now
             out.request_len) }
         ensures same { IsAllBut self.old self.new
@@ -189,6 +194,7 @@ impl ChainHandle {
             → (h : InHeader) (more : List ℕ)
             → record_parser in_header whole ≡ Ok (h, more)
             → IsPreservedFor (context_of h) self.new.state)) }
+        ensures places { IfOk result (ReportStandsIn request.now) }
         ensures wanted { IfOk result (λ reported. IfUndecoded self.old.state
             (λ out. wanted_by reported ≡ wanted_after request.now out.request_len)) }
         ensures same { IsAllBut self.old self.new

@@ -5,15 +5,11 @@ mod ChainValues
 mod IotlbValues
 pub mod IotlbLemmas
 pub mod HandleLemmas
-pub mod LabelPlaces
 pub mod LoggingLemmas
 pub mod MemoryLemmas
 pub mod MovingLemmas
-pub mod NamePlaces
 pub mod NotifyLemmas
 pub mod QueueLemmas
 pub mod RangeLemmas
 pub mod RecordLemmas
-pub mod SpanCalls
-pub mod SpanLemmas
 pub mod WindowLemmas

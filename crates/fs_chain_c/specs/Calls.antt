@@ -1,11 +1,12 @@
 -- The fields of a request's file call, as the library returns them to C.
-use Rattle.std.specs.Prelude.{◌==◌, ◌+◌, ◌-◌, ◌*◌, ◌/◌, ◌^◌, ℕ, Bool, true, false, List, length, take, drop}
-use Rattle.std.specs.Prelude.{Option, Some, None, min, nat_lt, bit_and, is_some, unwrap_or, if◌then◌else◌}
+use Rattle.std.specs.Prelude.{◌-◌, ◌/◌, ◌^◌, ℕ, Bool, true, false, List, length, take, drop}
+use Rattle.std.specs.Prelude.{Option, Some, None, min, nat_lt, is_some, unwrap_or, if◌then◌else◌}
 use Rattle.std.specs.Int.{w32, w64, cast_unsigned, from_le_bytes}
 use Rattle.fuse_fs.specs.declared.answers.Context.{Context}
 use Rattle.fuse_in.specs.declared.nodes.SetattrIn.{SetattrIn}
 use Rattle.fuse_values.specs.declared.call.FileCall.{FileCall}
 use Rattle.fuse_values.specs.declared.call.FileCall.TheVariants as value
+use Rattle.fuse_values.specs.declared.placed.Placed.{Placed}
 use Rattle.fuse_values.specs.declared.received.Label.{Label}
 use Rattle.fuse_wire.specs.declared.opcodes.Opcode.{Opcode}
 use Rattle.fuse_wire.specs.declared.opcodes.Opcode.TheVariants as op
@@ -108,13 +109,9 @@ abbrev pub made_by : Opcode → AnswerKind → Context → (node : ℕ) → FsCa
 made_by o a who node =
     record (made o a) { uid = who.uid.0; gid = who.gid.0; pid = cast_unsigned w32 who.pid; node = node }
 
--- a span of the request's bytes
-abbrev pub span : (at len : ℕ) → FsSpan
-span at len = record { at = low at; len = low len }
-
--- the offset behind a name and its zero byte
-abbrev pub behind : (at len : ℕ) → ℕ
-behind at len = min (at + (len + 1)) (2 ^ 64 - 1)
+-- the span of some bytes of the request
+abbrev pub span : Placed → FsSpan
+span p = record { at = p.at; len = length p.bytes.now }
 
 -- how many bytes of data fit the reply buffer, of those that are requested
 abbrev pub data_len : (size room : ℕ) → ℕ
@@ -134,15 +131,6 @@ attr_reported a = record no_attr {
   uid = a.uid.0;
   gid = a.gid.0;
 }
-
--- the offset of the first name of RENAME or RENAME2: it follows struct fuse_rename_in or struct
--- fuse_rename2_in
-abbrev pub at_rename : (opcode : ℕ) → ℕ
-at_rename opcode = if opcode == call_number op.Rename2 then 56 else 48
-
--- the offset of the name of SETXATTR: its record is longer, if FUSE_SETXATTR_EXT was agreed
-abbrev pub at_setxattr : (options : ℕ) → ℕ
-at_setxattr options = if bit_and options (2 ^ 29) == 0 then 48 else 56
 
 -- whether the request of a call has names
 abbrev pub has_name : FileCall → Bool
@@ -176,29 +164,27 @@ is_of_open_file (value.CopyFileRange context node handle offset node_out handle_
     true
 is_of_open_file _ = false
 
--- the fields of a call, by its request's opcode, the agreed options and the length of the reply buffer
--- (room). A first name lies behind the request's header of 40 bytes and the record of its kind
--- (linux/fuse.h). A reply's data lies in the reply buffer behind the reply's header of 16 bytes. A field that
--- the call doesn't have is 0
-abbrev pub reported_call : (opcode options room : ℕ) → FileCall → FsCall
-reported_call opcode options room (value.Init capable) =
+-- the fields of a call, by its request's opcode and the length of the reply buffer (room). A reply's data is
+-- in the reply buffer behind the reply's header of 16 bytes. A field that the call doesn't have is 0
+abbrev pub reported_call : (opcode room : ℕ) → FileCall → FsCall
+reported_call opcode room (value.Init capable) =
     record (made op.Init awaits.Init) { options = capable.0 }
-reported_call opcode options room value.Destroy = made op.Destroy awaits.Done
-reported_call opcode options room (value.Lookup context node name) =
-    record (made_by op.Lookup awaits.Entry context node) { name = span 40 (length name.now) }
-reported_call opcode options room (value.Forget context node count) =
+reported_call opcode room value.Destroy = made op.Destroy awaits.Done
+reported_call opcode room (value.Lookup context node name) =
+    record (made_by op.Lookup awaits.Entry context node) { name = span name }
+reported_call opcode room (value.Forget context node count) =
     record (made_by op.Forget awaits.None context node) { count = count }
-reported_call opcode options room (value.BatchForget context counts) =
+reported_call opcode room (value.BatchForget context counts) =
     record (made_by op.BatchForget awaits.None context 0) {
-      count = length counts.now / 16;
-      value = span 48 (16 * (length counts.now / 16));
+      count = length counts.bytes.now / 16;
+      value = span counts;
     }
-reported_call opcode options room (value.Getattr context node handle) =
+reported_call opcode room (value.Getattr context node handle) =
     record (made_by op.Getattr awaits.Attr context node) {
       has_handle = flag (is_some handle);
       handle = unwrap_or handle 0;
     }
-reported_call opcode options room (value.Setattr context node attr handle valid) =
+reported_call opcode room (value.Setattr context node attr handle valid) =
     record (made_by op.Setattr awaits.Attr context node) {
       has_handle = flag (is_some handle);
       handle = unwrap_or handle 0;
@@ -206,48 +192,48 @@ reported_call opcode options room (value.Setattr context node attr handle valid)
       owner = attr.lock_owner;
       attr = attr_reported attr;
     }
-reported_call opcode options room (value.Readlink context node) =
+reported_call opcode room (value.Readlink context node) =
     record (made_by op.Readlink awaits.Data context node) { data_at = 16; data_len = room - 16 }
-reported_call opcode options room (value.Symlink context link node name extra) =
+reported_call opcode room (value.Symlink context link node name extra) =
     record (made_by op.Symlink awaits.Entry context node) {
-      name = span 40 (length name.now);
-      value = span (behind 40 (length name.now)) (length link.now);
+      name = span name;
+      value = span link;
       has_group = flag (is_some extra.sup_gid);
       group = unwrap_or extra.sup_gid 0;
     }
-reported_call opcode options room (value.Mknod context node name mode rdev umask extra) =
+reported_call opcode room (value.Mknod context node name mode rdev umask extra) =
     record (made_by op.Mknod awaits.Entry context node) {
-      name = span 56 (length name.now);
+      name = span name;
       mode = mode;
       rdev = rdev;
       umask = umask;
       has_group = flag (is_some extra.sup_gid);
       group = unwrap_or extra.sup_gid 0;
     }
-reported_call opcode options room (value.Mkdir context node name mode umask extra) =
+reported_call opcode room (value.Mkdir context node name mode umask extra) =
     record (made_by op.Mkdir awaits.Entry context node) {
-      name = span 48 (length name.now);
+      name = span name;
       mode = mode;
       umask = umask;
       has_group = flag (is_some extra.sup_gid);
       group = unwrap_or extra.sup_gid 0;
     }
-reported_call opcode options room (value.Unlink context node name) =
-    record (made_by op.Unlink awaits.Done context node) { name = span 40 (length name.now) }
-reported_call opcode options room (value.Rmdir context node name) =
-    record (made_by op.Rmdir awaits.Done context node) { name = span 40 (length name.now) }
-reported_call opcode options room (value.Rename context node old new_dir new flags) =
+reported_call opcode room (value.Unlink context node name) =
+    record (made_by op.Unlink awaits.Done context node) { name = span name }
+reported_call opcode room (value.Rmdir context node name) =
+    record (made_by op.Rmdir awaits.Done context node) { name = span name }
+reported_call opcode room (value.Rename context node old new_dir new flags) =
     record (made_by op.Rename awaits.Done context node) {
-      name = span (at_rename opcode) (length old.now);
-      name2 = span (behind (at_rename opcode) (length old.now)) (length new.now);
+      name = span old;
+      name2 = span new;
       node2 = new_dir;
       flags = flags;
     }
-reported_call opcode options room (value.Link context old_node node name) =
-    record (made_by op.Link awaits.Entry context old_node) { name = span 48 (length name.now); node2 = node }
-reported_call opcode options room (value.Open context node kill flags) =
+reported_call opcode room (value.Link context old_node node name) =
+    record (made_by op.Link awaits.Entry context old_node) { name = span name; node2 = node }
+reported_call opcode room (value.Open context node kill flags) =
     record (made_by op.Open awaits.Open context node) { flags = flags; kill_priv = flag kill }
-reported_call opcode options room (value.Read context node handle most size offset owner flags) =
+reported_call opcode room (value.Read context node handle most size offset owner flags) =
     record (made_by op.Read awaits.Data context node) {
       handle = handle;
       offset = offset;
@@ -258,7 +244,7 @@ reported_call opcode options room (value.Read context node handle most size offs
       has_owner = flag (is_some owner);
       owner = unwrap_or owner 0;
     }
-reported_call opcode options room (value.Write context node handle len size offset owner delayed kill flags) =
+reported_call opcode room (value.Write context node handle len size offset owner delayed kill flags) =
     record (made_by op.Write awaits.Write context node) {
       handle = handle;
       offset = offset;
@@ -271,8 +257,8 @@ reported_call opcode options room (value.Write context node handle len size offs
       delayed = flag delayed;
       kill_priv = flag kill;
     }
-reported_call opcode options room (value.Statfs context node) = made_by op.Statfs awaits.Statfs context node
-reported_call opcode options room (value.Release context node flags handle flush unlock owner) =
+reported_call opcode room (value.Statfs context node) = made_by op.Statfs awaits.Statfs context node
+reported_call opcode room (value.Release context node flags handle flush unlock owner) =
     record (made_by op.Release awaits.Done context node) {
       handle = handle;
       flags = flags;
@@ -281,39 +267,39 @@ reported_call opcode options room (value.Release context node flags handle flush
       has_owner = flag (is_some owner);
       owner = unwrap_or owner 0;
     }
-reported_call opcode options room (value.Fsync context node data_only handle) =
+reported_call opcode room (value.Fsync context node data_only handle) =
     record (made_by op.Fsync awaits.Done context node) { handle = handle; data_only = flag data_only }
-reported_call opcode options room (value.Fsyncdir context node data_only handle) =
+reported_call opcode room (value.Fsyncdir context node data_only handle) =
     record (made_by op.Fsyncdir awaits.Done context node) { handle = handle; data_only = flag data_only }
-reported_call opcode options room (value.Setxattr context node name value flags extra) =
+reported_call opcode room (value.Setxattr context node name value flags extra) =
     record (made_by op.Setxattr awaits.Done context node) {
-      name = span (at_setxattr options) (length name.now);
-      value = span (behind (at_setxattr options) (length name.now)) (length value.now);
+      name = span name;
+      value = span value;
       flags = flags;
       setxattr_flags = extra.0;
     }
-reported_call opcode options room (value.Getxattr context node name size) =
+reported_call opcode room (value.Getxattr context node name size) =
     record (made_by op.Getxattr awaits.Data context node) {
       answer = answer_number (sized size);
-      name = span 48 (length name.now);
+      name = span name;
       size = size;
       data_at = 16;
       data_len = data_len size room;
     }
-reported_call opcode options room (value.Listxattr context node size) =
+reported_call opcode room (value.Listxattr context node size) =
     record (made_by op.Listxattr awaits.Data context node) {
       answer = answer_number (sized size);
       size = size;
       data_at = 16;
       data_len = data_len size room;
     }
-reported_call opcode options room (value.Removexattr context node name) =
-    record (made_by op.Removexattr awaits.Done context node) { name = span 40 (length name.now) }
-reported_call opcode options room (value.Flush context node handle owner) =
+reported_call opcode room (value.Removexattr context node name) =
+    record (made_by op.Removexattr awaits.Done context node) { name = span name }
+reported_call opcode room (value.Flush context node handle owner) =
     record (made_by op.Flush awaits.Done context node) { handle = handle; owner = owner }
-reported_call opcode options room (value.Opendir context node flags) =
+reported_call opcode room (value.Opendir context node flags) =
     record (made_by op.Opendir awaits.Open context node) { flags = flags }
-reported_call opcode options room (value.Readdir context node handle size offset) =
+reported_call opcode room (value.Readdir context node handle size offset) =
     record (made_by op.Readdir awaits.Entries context node) {
       kind = call_number (listing opcode);
       handle = handle;
@@ -322,13 +308,13 @@ reported_call opcode options room (value.Readdir context node handle size offset
       data_at = 16;
       data_len = data_len size room;
     }
-reported_call opcode options room (value.Releasedir context node flags handle) =
+reported_call opcode room (value.Releasedir context node flags handle) =
     record (made_by op.Releasedir awaits.Done context node) { handle = handle; flags = flags }
-reported_call opcode options room (value.Access context node mask) =
+reported_call opcode room (value.Access context node mask) =
     record (made_by op.Access awaits.Done context node) { mode = mask }
-reported_call opcode options room (value.Create context node name mode kill flags umask extra) =
+reported_call opcode room (value.Create context node name mode kill flags umask extra) =
     record (made_by op.Create awaits.Create context node) {
-      name = span 56 (length name.now);
+      name = span name;
       mode = mode;
       flags = flags;
       umask = umask;
@@ -336,16 +322,16 @@ reported_call opcode options room (value.Create context node name mode kill flag
       has_group = flag (is_some extra.sup_gid);
       group = unwrap_or extra.sup_gid 0;
     }
-reported_call opcode options room (value.Fallocate context node handle mode offset len) =
+reported_call opcode room (value.Fallocate context node handle mode offset len) =
     record (made_by op.Fallocate awaits.Done context node) {
       handle = handle;
       mode = mode;
       offset = offset;
       size = len;
     }
-reported_call opcode options room (value.Lseek context node handle offset whence) =
+reported_call opcode room (value.Lseek context node handle offset whence) =
     record (made_by op.Lseek awaits.Lseek context node) { handle = handle; offset = offset; flags = whence }
-reported_call opcode options room
+reported_call opcode room
     (value.CopyFileRange context node handle offset node_out handle_out offset_out len flags) =
     record (made_by op.CopyFileRange awaits.Write context node) {
       handle = handle;
@@ -355,15 +341,15 @@ reported_call opcode options room
       offset2 = offset_out;
       size = len;
     }
-reported_call opcode options room (value.Syncfs context node) = made_by op.Syncfs awaits.Done context node
-reported_call opcode options room value.Getlk = empty_call
-reported_call opcode options room value.Setlk = empty_call
-reported_call opcode options room value.Setlkw = empty_call
-reported_call opcode options room value.Bmap = empty_call
-reported_call opcode options room value.Ioctl = empty_call
-reported_call opcode options room value.Poll = empty_call
-reported_call opcode options room value.NotifyReply = empty_call
-reported_call opcode options room value.TmpFile = empty_call
+reported_call opcode room (value.Syncfs context node) = made_by op.Syncfs awaits.Done context node
+reported_call opcode room value.Getlk = empty_call
+reported_call opcode room value.Setlk = empty_call
+reported_call opcode room value.Setlkw = empty_call
+reported_call opcode room value.Bmap = empty_call
+reported_call opcode room value.Ioctl = empty_call
+reported_call opcode room value.Poll = empty_call
+reported_call opcode room value.NotifyReply = empty_call
+reported_call opcode room value.TmpFile = empty_call
 
 -- the opcode of a request, and its unique number (struct fuse_in_header); 0 if the request is shorter than 16
 -- bytes
@@ -387,46 +373,14 @@ label_in (value.Mkdir context node name mode umask extra) = extra.secctx
 label_in (value.Create context node name mode kill flags umask extra) = extra.secctx
 label_in _ = None
 
--- the offset behind the names of a request that makes a node: that of its first extension
-abbrev pub behind_names : FileCall → ℕ
-behind_names (value.Symlink context link node name extra) =
-    behind (behind 40 (length name.now)) (length link.now)
-behind_names (value.Mknod context node name mode rdev umask extra) = behind 56 (length name.now)
-behind_names (value.Mkdir context node name mode umask extra) = behind 48 (length name.now)
-behind_names (value.Create context node name mode kill flags umask extra) = behind 56 (length name.now)
-behind_names _ = 0
-
--- the offset that is n bytes behind another
-abbrev pub past : (at n : ℕ) → ℕ
-past at n = min (at + n) (2 ^ 64 - 1)
-
--- four bytes of a request as a number; 0 if it ends before
-abbrev pub word_at : (request : List ℕ) → (at : ℕ) → ℕ
-word_at request at =
-    if nat_lt (length request - at) 4 then 0 else from_le_bytes w32 (take 4 (drop at request))
-
--- the offset of a label's name, by that of the first extension. An extension begins with its length and its
--- kind (struct fuse_ext_header). A label's is of kind 1: it is the first one, or follows the group's. The
--- name follows that header and struct fuse_secctx, of 8 bytes each
-abbrev pub label_name_at : (request : List ℕ) → (at : ℕ) → ℕ
-label_name_at request at =
-    past (if word_at request (past at 4) == 1 then at else past at (word_at request at)) 16
-
--- a call's fields with the offsets of a label and its name: the label is behind the name's zero byte
-abbrev pub labelled : (request : List ℕ) → (at : ℕ) → Option Label → FsCall → FsCall
-labelled request at None call = call
-labelled request at (Some l) call =
-    let name = label_name_at request at in
-    record call {
-      has_label = 1;
-      label_name = span name (length l.name.now);
-      label = span (behind name (length l.name.now)) (length l.secctx.now);
-    }
+-- a call's fields with a label and its name
+abbrev pub labelled : Option Label → FsCall → FsCall
+labelled None call = call
+labelled (Some l) call = record call { has_label = 1; label_name = span l.name; label = span l.secctx }
 
 -- ---- the fields of a call
 
--- the fields of a call, by its request, the agreed options and the length of the reply buffer
-abbrev pub call_fields : (request : List ℕ) → (options room : ℕ) → FileCall → FsCall
-call_fields request options room call =
-    labelled request (behind_names call) (label_in call)
-    (numbered request (reported_call (opcode_in request) options room call))
+-- the fields of a call, by its request and the length of the reply buffer
+abbrev pub call_fields : (request : List ℕ) → (room : ℕ) → FileCall → FsCall
+call_fields request room call =
+    labelled (label_in call) (numbered request (reported_call (opcode_in request) room call))

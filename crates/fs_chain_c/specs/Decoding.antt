@@ -18,7 +18,7 @@ use Rattle.fs_chain.specs.declared.error.ChainError.{ChainError}
 use Rattle.fs_chain.specs.declared.error.ChainError.TheVariants.{BadArgument}
 use Rattle.fs_chain.specs.declared.chain_handle.ChainHandle.{ChainHandle}
 use Rattle.fs_chain.specs.Answers.{CanBeGiven, IfWaits, IsGiven, IsNotTaken, IsWaiting}
-use Rattle.fs_chain.specs.Decoding.{IfUndecoded, ReportsMeaning, wanted_after, wanted_by}
+use Rattle.fs_chain.specs.Decoding.{IfUndecoded, ReportStandsIn, ReportsMeaning, wanted_after, wanted_by}
 use Rattle.fs_chain.specs.Holds as holds
 use Rattle.fs_chain.specs.Numbers.{chain_error_number}
 use Rattle.fs_chain.specs.Orders.{ask_error, room_len}
@@ -26,7 +26,6 @@ use Rattle.fs_chain.specs.Walks.{IsAllBut, IsAllButPlace}
 use Rattle.fs_chain_c.specs.declared.call.FsCall.{FsCall}
 use Rattle.fs_chain_c.specs.declared.device.FsDevice.{FsDevice}
 use Rattle.fs_chain_c.specs.Calls.{call_fields, low, empty_call, numbered}
-use Rattle.fs_chain_c.specs.Spans.{CallHasNames}
 use Rattle.fs_chain_c.specs.Memory.{IsDevice}
 
 -- ---- an answer
@@ -114,7 +113,7 @@ abbrev pub ReportsAsked :
 ReportsAsked b request (reports.Call made) call status b' =
     (status ≡ 0)
     × (answered : ℕ) × AnswersAtOnce b (answer_unasked made) answered b'
-    × (call ≡ record (call_fields request b.session.options.0 (room_len b.state) made) {
+    × (call ≡ record (call_fields request (room_len b.state) made) {
       fault = fault_after answered;
     })
 ReportsAsked b request (reports.More n) call status b' =
@@ -124,8 +123,8 @@ ReportsAsked b request reports.Nothing call status b' =
 ReportsAsked b request (reports.Fault e) call status b' =
     (status ≡ 0) × (call ≡ numbered request (record empty_call { fault = error_number e })) × (b' ≡ b)
 
--- a request is decoded in the device's session, and the call has the ticket of the chain. In a request of
--- less than 2^32 bytes each span of the call holds its name, its value, its pairs or its label
+-- a request is decoded in the device's session, and the call has the ticket of the chain. Its names, values,
+-- pairs and label are in the request where their spans say
 abbrev pub DecodesSo :
     ChainHandle → FsDevice → (request : List ℕ) → FsCall → (status : ℕ) → ChainHandle → Type 0
 DecodesSo b d request call status b' =
@@ -136,7 +135,7 @@ DecodesSo b d request call status b' =
     × (fields : FsCall)
     × ReportsAsked asked request made fields status b'
     × (call ≡ record fields { ticket = b.serial })
-    × (length request < 2 ^ 32 → CallHasNames request made call)
+    × ReportStandsIn request made
 
 -- a `ChainHandle` decodes the first bytes of a request; `BadArgument`, if the numbers aren't a device's
 abbrev pub DecodesHandle :

@@ -16,7 +16,6 @@ pub mod Ranges
 pub mod Records
 pub mod Replies
 pub mod Pushing
-pub mod Spans
 pub mod States
 pub mod Popping
 pub mod Windows

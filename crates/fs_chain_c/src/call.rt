@@ -1,12 +1,12 @@
 //! The file call of a request, with the fields that C gets.
 
 ghost use Rattle.std.specs.Prelude.{◌≡◌, ◌-◌};
-ghost use Rattle.fs_chain_c.specs.Calls.{attr_reported, behind, data_len, low, made, made_by, empty_call};
-ghost use Rattle.fs_chain_c.specs.Calls.{span};
+ghost use Rattle.fs_chain_c.specs.Calls.{attr_reported, data_len, made, made_by, empty_call, span};
 
 use crate::answer_kind::{AnswerKind, call_number};
 use fuse_fs::Context;
 use fuse_in::SetattrIn;
+use fuse_values::Placed;
 use fuse_wire::Opcode;
 
 /// A span of the request's bytes.
@@ -258,28 +258,14 @@ impl FsCall {
 /// The bytes of a reply's header: data follows it.
 pub(crate) const HEADER: u64 = 16;
 
-// A number as a 32-bit field: the greatest, if it doesn't fit.
-fn low(n: usize) -> u32
-    ensures { result ≡ low n }
-{
-    n.min(u32::MAX as usize) as u32
-}
-
-// A span of a request's bytes.
-pub(crate) fn span(at: usize, len: usize) -> FsSpan
-    ensures { result ≡ span at len }
+// The span of some bytes of a request.
+pub(crate) fn span(placed: &Placed<'_>) -> FsSpan
+    ensures { result ≡ span placed.now }
 {
     FsSpan {
-        at: low(at),
-        len: low(len),
+        at: placed.at,
+        len: placed.bytes.len() as u32,
     }
-}
-
-// The offset behind a name and its zero byte.
-pub(crate) fn behind(at: usize, len: usize) -> usize
-    ensures { result ≡ behind at len }
-{
-    at.saturating_add(len.saturating_add(1))
 }
 
 // The bytes of a reply buffer behind the reply's header.

@@ -1,48 +1,14 @@
 //! The fields that C gets of each file call: one row for each.
 
-ghost use Rattle.std.specs.Prelude.{◌≡◌, true};
-ghost use Rattle.fs_chain_c.specs.Calls.{at_rename, at_setxattr, has_name, is_of_open_file, reported_call};
+ghost use Rattle.std.specs.Prelude.{◌≡◌, ℕ, true};
+ghost use Rattle.fs_chain_c.specs.Calls.{has_name, is_of_open_file, reported_call};
 
 use crate::answer_kind::{AnswerKind, call_number, listing, sized};
-use crate::call::{FsCall, HEADER, attr_reported, behind, behind_header, data_len, span};
+use crate::call::{FsCall, HEADER, attr_reported, behind_header, data_len, span};
 use bitflags::Flags;
 use fuse_values::FileCall;
 use fuse_wire::Opcode;
 use virtiofsd_fuse::REQUEST_FRONT;
-
-/// The option by which SETXATTR has a longer record (FUSE_SETXATTR_EXT).
-const SETXATTR_EXT: u64 = 1 << 29;
-
-/// The offset of a request's first name: behind its header (struct fuse_in_header).
-const AT: usize = 40;
-
-/// Behind the header and a record of 8 bytes.
-const AT_8: usize = AT + 8;
-
-/// Behind the header and a record of 16 bytes.
-const AT_16: usize = AT + 16;
-
-// The offset of the first name of RENAME or RENAME2 (struct fuse_rename_in, struct fuse_rename2_in).
-fn at_rename(opcode: u32) -> usize
-    ensures { result ≡ at_rename opcode }
-{
-    if opcode == call_number(Opcode::Rename2) {
-        AT_16
-    } else {
-        AT_8
-    }
-}
-
-// The offset of the name of SETXATTR: behind the long record, if that was agreed (struct fuse_setxattr_in).
-fn at_setxattr(options: u64) -> usize
-    ensures { result ≡ at_setxattr options }
-{
-    if options & SETXATTR_EXT == 0 {
-        AT_8
-    } else {
-        AT_16
-    }
-}
 
 // A match over all calls. A row of `of_a_node` is a call that a process makes on a node: the fields to match,
 // the answer's kind, and the fields to set. A row of `others` has the fields to match, the call to start
@@ -67,54 +33,45 @@ macro_rules! reported {
 }
 
 // Fills a call whose request has names, as C gets it.
-fn named_call(opcode: u32, options: u64, room: usize, call: &FileCall<'_>, reported: &mut FsCall)
+fn named_call(room: usize, call: &FileCall<'_>, reported: &mut FsCall)
     requires named { has_name call.now ≡ true }
-    ensures { reported.new ≡ reported_call opcode options room call.now }
+    ensures { (opcode : ℕ) → reported.new ≡ reported_call opcode room call.now }
 {
     reported!(call, reported, of_a_node {
-        Lookup { name } Entry, name: span(AT, name.len());
+        Lookup { name } Entry, name: span(name);
         Symlink { link, name, extra } Entry,
-            name: span(AT, name.len()), value: span(behind(AT, name.len()), link.len()),
+            name: span(name), value: span(link),
             has_group: u8::from(extra.sup_gid.is_some()), group: extra.sup_gid.unwrap_or(0);
         Mknod { name, mode, rdev, umask, extra } Entry,
-            name: span(AT_16, name.len()), mode: *mode, rdev: *rdev, umask: *umask,
+            name: span(name), mode: *mode, rdev: *rdev, umask: *umask,
             has_group: u8::from(extra.sup_gid.is_some()), group: extra.sup_gid.unwrap_or(0);
         Mkdir { name, mode, umask, extra } Entry,
-            name: span(AT_8, name.len()), mode: *mode, umask: *umask,
+            name: span(name), mode: *mode, umask: *umask,
             has_group: u8::from(extra.sup_gid.is_some()), group: extra.sup_gid.unwrap_or(0);
-        Unlink { name } Done, name: span(AT, name.len());
-        Rmdir { name } Done, name: span(AT, name.len());
+        Unlink { name } Done, name: span(name);
+        Rmdir { name } Done, name: span(name);
         Rename { old, new_dir, new, flags } Done,
-            name: span(at_rename(opcode), old.len()),
-            name2: span(behind(at_rename(opcode), old.len()), new.len()), node2: *new_dir, flags: *flags;
+            name: span(old), name2: span(new), node2: *new_dir, flags: *flags;
         Setxattr { name, value, flags, extra } Done,
-            name: span(at_setxattr(options), name.len()),
-            value: span(behind(at_setxattr(options), name.len()), value.len()), flags: *flags,
-            setxattr_flags: extra.bits();
+            name: span(name), value: span(value), flags: *flags, setxattr_flags: extra.bits();
         Getxattr { name, size } Data,
-            answer: sized(*size).number(), name: span(AT_8, name.len()), size: u64::from(*size),
+            answer: sized(*size).number(), name: span(name), size: u64::from(*size),
             data_at: HEADER, data_len: data_len(*size, room);
-        Removexattr { name } Done, name: span(AT, name.len());
+        Removexattr { name } Done, name: span(name);
         Create { name, mode, kill, flags, umask, extra } Create,
-            name: span(AT_16, name.len()), mode: *mode, flags: *flags, umask: *umask,
+            name: span(name), mode: *mode, flags: *flags, umask: *umask,
             kill_priv: u8::from(*kill), has_group: u8::from(extra.sup_gid.is_some()),
             group: extra.sup_gid.unwrap_or(0);
     } others {
         Link { context, old_node, node, name } = FsCall::made_by(Opcode::Link, AnswerKind::Entry, context,
-            *old_node), name: span(AT_8, name.len()), node2: *node;
+            *old_node), name: span(name), node2: *node;
     } _ => unreachable!())
 }
 
 // Fills a call on an open file or directory, which it names by its handle, as C gets it.
-fn open_file_call(
-    opcode: u32,
-    options: u64,
-    room: usize,
-    call: &FileCall<'_>,
-    reported: &mut FsCall,
-)
+fn open_file_call(opcode: u32, room: usize, call: &FileCall<'_>, reported: &mut FsCall)
     requires opened { is_of_open_file call.now ≡ true }
-    ensures { reported.new ≡ reported_call opcode options room call.now }
+    ensures { reported.new ≡ reported_call opcode room call.now }
 {
     reported!(call, reported, of_a_node {
         Read { handle, room: most, size, offset, owner, flags } Data,
@@ -144,16 +101,9 @@ fn open_file_call(
     } others {} _ => unreachable!())
 }
 
-/// Fills a call as C gets it, by the opcode of its request, the agreed options, and the length of the reply
-/// buffer.
-pub(crate) fn reported_call(
-    opcode: u32,
-    options: u64,
-    room: usize,
-    call: &FileCall<'_>,
-    reported: &mut FsCall,
-)
-    ensures { reported.new ≡ reported_call opcode options room call.now }
+/// Fills a call as C gets it, by the opcode of its request and the length of the reply buffer.
+pub(crate) fn reported_call(opcode: u32, room: usize, call: &FileCall<'_>, reported: &mut FsCall)
+    ensures { reported.new ≡ reported_call opcode room call.now }
 {
     reported!(call, reported, of_a_node {
         Forget { count } None, count: *count;
@@ -173,7 +123,7 @@ pub(crate) fn reported_call(
         Init { capable } = FsCall::made(Opcode::Init, AnswerKind::Init), options: capable.bits();
         Destroy {} = FsCall::made(Opcode::Destroy, AnswerKind::Done);
         BatchForget { context, counts } = FsCall::made_by(Opcode::BatchForget, AnswerKind::None, context, 0),
-            count: (counts.len() / 16) as u64, value: span(AT_8, 16 * (counts.len() / 16));
+            count: (counts.bytes.len() / 16) as u64, value: span(counts);
         Getlk {} = FsCall::none();
         Setlk {} = FsCall::none();
         Setlkw {} = FsCall::none();
@@ -187,11 +137,11 @@ pub(crate) fn reported_call(
             | FileCall::Mkdir { .. } | FileCall::Unlink { .. } | FileCall::Rmdir { .. }
             | FileCall::Rename { .. } | FileCall::Setxattr { .. } | FileCall::Getxattr { .. }
             | FileCall::Removexattr { .. } | FileCall::Create { .. } | FileCall::Link { .. } =>
-            named_call(opcode, options, room, call, reported),
+            named_call(room, call, reported),
         FileCall::Read { .. } | FileCall::Write { .. } | FileCall::Release { .. }
             | FileCall::Fsync { .. } | FileCall::Fsyncdir { .. } | FileCall::Flush { .. }
             | FileCall::Readdir { .. } | FileCall::Releasedir { .. } | FileCall::Fallocate { .. }
             | FileCall::Lseek { .. } | FileCall::CopyFileRange { .. } =>
-            open_file_call(opcode, options, room, call, reported)
+            open_file_call(opcode, room, call, reported)
     )
 }

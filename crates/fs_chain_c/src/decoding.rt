@@ -78,8 +78,7 @@ fn tell(handle: &mut ChainHandle, request: &[u8], reported: Decoded<'_>, call: &
 {
     match reported {
         Decoded::Call(made) => {
-            let options = handle.session().options().bits();
-            call_fields(request, options, handle.room_len(), &made, call);
+            call_fields(request, handle.room_len(), &made, call);
             let answered = settle(handle, answer_unasked(&made));
             call.fault = fault_after(answered);
             0

@@ -2,12 +2,11 @@
 
 ghost use Rattle.std.specs.Prelude.{◌≡◌, ◌≤◌, length, take, drop};
 ghost use Rattle.std.specs.Int.{w32, w64, from_le_bytes};
-ghost use Rattle.fs_chain_c.specs.Calls.{call_fields, numbered, opcode_in, unique_in};
+ghost use Rattle.fs_chain_c.specs.Calls.{call_fields, labelled, numbered, opcode_in, unique_in};
 
-use crate::call::FsCall;
+use crate::call::{FsCall, span};
 use crate::call_table::reported_call;
-use crate::labels::add_label;
-use fuse_values::FileCall;
+use fuse_values::{FileCall, Label};
 
 // Four bytes of a request as a number.
 fn word(request: &[u8]) -> u32
@@ -51,18 +50,32 @@ pub fn number(request: &[u8], call: &mut FsCall)
     call.unique = unique_in(request);
 }
 
-/// Fills a call's fields, by its request, the agreed options, and the length of the reply buffer.
-#[inline(never)]
-pub fn call_fields(
-    request: &[u8],
-    options: u64,
-    room: usize,
-    call: &FileCall<'_>,
-    reported: &mut FsCall,
-)
-    ensures { reported.new ≡ call_fields request.now options room call.now }
+// Adds the label of a new node and its name, if the request has one.
+fn add_label(label: &Option<Label<'_>>, reported: &mut FsCall)
+    ensures { reported.new ≡ labelled label.now reported.old }
 {
-    reported_call(opcode_in(request), options, room, call, reported);
+    match label {
+        Some(label) => {
+            reported.has_label = 1;
+            reported.label_name = span(&label.name);
+            reported.label = span(&label.secctx);
+        }
+        None => {}
+    }
+}
+
+/// Fills a call's fields, by its request and the length of the reply buffer.
+#[inline(never)]
+pub fn call_fields(request: &[u8], room: usize, call: &FileCall<'_>, reported: &mut FsCall)
+    ensures { reported.new ≡ call_fields request.now room call.now }
+{
+    reported_call(opcode_in(request), room, call, reported);
     number(request, reported);
-    add_label(request, call, reported);
+    match call {
+        FileCall::Symlink { extra, .. }
+        | FileCall::Mknod { extra, .. }
+        | FileCall::Mkdir { extra, .. }
+        | FileCall::Create { extra, .. } => add_label(&extra.secctx, reported),
+        _ => {}
+    }
 }

@@ -13,7 +13,6 @@ mod fields;
 pub mod handle;
 pub mod iotlb_handle;
 pub mod iotlbs;
-mod labels;
 pub mod laws;
 pub mod laws_moving;
 pub mod listing;

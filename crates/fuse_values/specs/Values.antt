@@ -11,7 +11,7 @@ use Rattle.fuse_values.specs.declared.received.Received.{Received}
 
 -- the label that is borrowed from a request
 abbrev pub label_of : Label → SecurityContext
-label_of l = record { name = l.name.now; label = l.secctx.now }
+label_of l = record { name = l.name.bytes.now; label = l.secctx.bytes.now }
 
 -- the extensions that are borrowed from a request
 abbrev pub received_extra : Received → Extra
@@ -35,23 +35,23 @@ pairs_in bytes = pairs_of (length bytes / 16) bytes
 abbrev pub call_of : (bytes : List ℕ) → FileCall → call.FileCall
 call_of bytes (value.Init capable) = call.Init capable.0
 call_of bytes value.Destroy = call.Destroy
-call_of bytes (value.Lookup context node name) = call.Lookup context node name.now
+call_of bytes (value.Lookup context node name) = call.Lookup context node name.bytes.now
 call_of bytes (value.Forget context node count) = call.Forget context node count
-call_of bytes (value.BatchForget context counts) = call.BatchForget context (pairs_in counts.now)
+call_of bytes (value.BatchForget context counts) = call.BatchForget context (pairs_in counts.bytes.now)
 call_of bytes (value.Getattr context node handle) = call.Getattr context node handle
 call_of bytes (value.Setattr context node attr handle valid) = call.Setattr context node attr handle valid.0
 call_of bytes (value.Readlink context node) = call.Readlink context node
 call_of bytes (value.Symlink context link node name extra) =
-    call.Symlink context link.now node name.now (received_extra extra)
+    call.Symlink context link.bytes.now node name.bytes.now (received_extra extra)
 call_of bytes (value.Mknod context node name mode rdev umask extra) =
-    call.Mknod context node name.now mode rdev umask (received_extra extra)
+    call.Mknod context node name.bytes.now mode rdev umask (received_extra extra)
 call_of bytes (value.Mkdir context node name mode umask extra) =
-    call.Mkdir context node name.now mode umask (received_extra extra)
-call_of bytes (value.Unlink context node name) = call.Unlink context node name.now
-call_of bytes (value.Rmdir context node name) = call.Rmdir context node name.now
+    call.Mkdir context node name.bytes.now mode umask (received_extra extra)
+call_of bytes (value.Unlink context node name) = call.Unlink context node name.bytes.now
+call_of bytes (value.Rmdir context node name) = call.Rmdir context node name.bytes.now
 call_of bytes (value.Rename context node old new_dir new flags) =
-    call.Rename context node old.now new_dir new.now flags
-call_of bytes (value.Link context old_node node name) = call.Link context old_node node name.now
+    call.Rename context node old.bytes.now new_dir new.bytes.now flags
+call_of bytes (value.Link context old_node node name) = call.Link context old_node node name.bytes.now
 call_of bytes (value.Open context node kill flags) = call.Open context node kill flags
 call_of bytes (value.Read context node handle room size offset owner flags) =
     call.Read context node handle room size offset owner flags
@@ -63,10 +63,10 @@ call_of bytes (value.Release context node flags handle flush unlock owner) =
 call_of bytes (value.Fsync context node data_only handle) = call.Fsync context node data_only handle
 call_of bytes (value.Fsyncdir context node data_only handle) = call.Fsyncdir context node data_only handle
 call_of bytes (value.Setxattr context node name value flags extra) =
-    call.Setxattr context node name.now value.now flags extra.0
-call_of bytes (value.Getxattr context node name size) = call.Getxattr context node name.now size
+    call.Setxattr context node name.bytes.now value.bytes.now flags extra.0
+call_of bytes (value.Getxattr context node name size) = call.Getxattr context node name.bytes.now size
 call_of bytes (value.Listxattr context node size) = call.Listxattr context node size
-call_of bytes (value.Removexattr context node name) = call.Removexattr context node name.now
+call_of bytes (value.Removexattr context node name) = call.Removexattr context node name.bytes.now
 call_of bytes (value.Flush context node handle owner) = call.Flush context node handle owner
 call_of bytes (value.Opendir context node flags) = call.Opendir context node flags
 call_of bytes (value.Readdir context node handle size offset) = call.Readdir context node handle size offset
@@ -80,7 +80,7 @@ call_of bytes value.Poll = call.Poll
 call_of bytes value.NotifyReply = call.NotifyReply
 call_of bytes (value.Access context node mask) = call.Access context node mask
 call_of bytes (value.Create context node name mode kill flags umask extra) =
-    call.Create context node name.now mode kill flags umask (received_extra extra)
+    call.Create context node name.bytes.now mode kill flags umask (received_extra extra)
 call_of bytes (value.Fallocate context node handle mode offset len) =
     call.Fallocate context node handle mode offset len
 call_of bytes (value.Lseek context node handle offset whence) = call.Lseek context node handle offset whence

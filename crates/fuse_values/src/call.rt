@@ -1,5 +1,6 @@
 //! A call of a file system as a value.
 
+use crate::placed::Placed;
 use crate::received::Received;
 use fuse_base::{FsOptions, SetattrValid, SetxattrFlags};
 use fuse_fs::Context;
@@ -7,7 +8,7 @@ use fuse_in::SetattrIn;
 
 /// A call of a file system with its arguments, which have the names of `FileSystem`'s. Nodes and handles are
 /// numbers of linux/fuse.h. Offsets and lengths count bytes. Names have no zero byte. `context` is the
-/// calling process in the guest. Names, values and pairs are borrowed from the request.
+/// calling process in the guest. Names, values and pairs are borrowed from the request, each with its offset.
 #[derive(Clone, Copy)]
 pub enum FileCall<'a> {
     /// Starts a session (FUSE_INIT).
@@ -20,7 +21,7 @@ pub enum FileCall<'a> {
     Lookup {
         context: Context,
         node: u64,
-        name: &'a [u8],
+        name: Placed<'a>,
     },
     /// Lowers a node's lookup count by `count` (FUSE_FORGET).
     Forget {
@@ -32,7 +33,7 @@ pub enum FileCall<'a> {
     /// and its count, little-endian (`struct fuse_forget_one`).
     BatchForget {
         context: Context,
-        counts: &'a [u8],
+        counts: Placed<'a>,
     },
     /// Gets a node's attributes (FUSE_GETATTR).
     Getattr {
@@ -56,16 +57,16 @@ pub enum FileCall<'a> {
     /// Makes a symbolic link to `link` (FUSE_SYMLINK).
     Symlink {
         context: Context,
-        link: &'a [u8],
+        link: Placed<'a>,
         node: u64,
-        name: &'a [u8],
+        name: Placed<'a>,
         extra: Received<'a>,
     },
     /// Makes a node of the kind in `mode` (FUSE_MKNOD).
     Mknod {
         context: Context,
         node: u64,
-        name: &'a [u8],
+        name: Placed<'a>,
         mode: u32,
         rdev: u32,
         umask: u32,
@@ -75,7 +76,7 @@ pub enum FileCall<'a> {
     Mkdir {
         context: Context,
         node: u64,
-        name: &'a [u8],
+        name: Placed<'a>,
         mode: u32,
         umask: u32,
         extra: Received<'a>,
@@ -84,21 +85,21 @@ pub enum FileCall<'a> {
     Unlink {
         context: Context,
         node: u64,
-        name: &'a [u8],
+        name: Placed<'a>,
     },
     /// Removes an empty directory (FUSE_RMDIR).
     Rmdir {
         context: Context,
         node: u64,
-        name: &'a [u8],
+        name: Placed<'a>,
     },
     /// Renames a file or directory (FUSE_RENAME and FUSE_RENAME2).
     Rename {
         context: Context,
         node: u64,
-        old: &'a [u8],
+        old: Placed<'a>,
         new_dir: u64,
-        new: &'a [u8],
+        new: Placed<'a>,
         flags: u32,
     },
     /// Gives `old_node` a name in the directory `node` (FUSE_LINK).
@@ -106,7 +107,7 @@ pub enum FileCall<'a> {
         context: Context,
         old_node: u64,
         node: u64,
-        name: &'a [u8],
+        name: Placed<'a>,
     },
     /// Opens a file (FUSE_OPEN).
     Open {
@@ -173,8 +174,8 @@ pub enum FileCall<'a> {
     Setxattr {
         context: Context,
         node: u64,
-        name: &'a [u8],
-        value: &'a [u8],
+        name: Placed<'a>,
+        value: Placed<'a>,
         flags: u32,
         extra: SetxattrFlags,
     },
@@ -182,7 +183,7 @@ pub enum FileCall<'a> {
     Getxattr {
         context: Context,
         node: u64,
-        name: &'a [u8],
+        name: Placed<'a>,
         size: u32,
     },
     /// Lists the names of a node's extended attributes (FUSE_LISTXATTR).
@@ -195,7 +196,7 @@ pub enum FileCall<'a> {
     Removexattr {
         context: Context,
         node: u64,
-        name: &'a [u8],
+        name: Placed<'a>,
     },
     /// The guest closed a descriptor of an open file (FUSE_FLUSH).
     Flush {
@@ -249,7 +250,7 @@ pub enum FileCall<'a> {
     Create {
         context: Context,
         node: u64,
-        name: &'a [u8],
+        name: Placed<'a>,
         mode: u32,
         kill: bool,
         flags: u32,

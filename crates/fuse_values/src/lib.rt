@@ -3,8 +3,10 @@
 
 mod answer;
 mod call;
+mod placed;
 mod received;
 
 pub use answer::FileAnswer;
 pub use call::FileCall;
+pub use placed::Placed;
 pub use received::{Label, Received};

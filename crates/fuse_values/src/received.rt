@@ -1,12 +1,14 @@
 //! The extensions of a request that makes a node, borrowed from the request.
 
+use crate::placed::Placed;
+
 /// A security label, borrowed from a request (`struct fuse_secctx`).
 #[derive(Clone, Copy)]
 pub struct Label<'a> {
     /// The label's name, for example `security.selinux`, without a zero byte.
-    pub name: &'a [u8],
+    pub name: Placed<'a>,
     /// The label's bytes.
-    pub secctx: &'a [u8],
+    pub secctx: Placed<'a>,
 }
 
 /// The extensions of a request, borrowed from it.

@@ -3,10 +3,10 @@
 ghost use Rattle.std.specs.Prelude.{refl};
 ghost use Rattle.server_calls.specs.Requests.{link_call, rename_call, rename2_call};
 
-use crate::values::{RecordNameValue, TwoPartsValue};
+use crate::values::{RecordNameValue, TwoNamesValue};
 use fuse_fs::Context;
 use fuse_in::{InHeader, LinkIn, Rename2In, RenameIn};
-use fuse_values::FileCall;
+use fuse_values::{FileCall, Placed};
 
 /// LINK (`struct fuse_link_in`): adds a name to a node.
 pub struct Link;
@@ -18,7 +18,7 @@ impl RecordNameValue for Link {
 
     ghost shows = { λ h r name. (refl, (refl, refl)) };
 
-    fn value<'a>(head: &InHeader, request: &LinkIn, name: &'a [u8]) -> FileCall<'a> {
+    fn value<'a>(head: &InHeader, request: &LinkIn, name: Placed<'a>) -> FileCall<'a> {
         FileCall::Link {
             context: Context::from(*head),
             old_node: request.oldnodeid,
@@ -31,25 +31,25 @@ impl RecordNameValue for Link {
 /// RENAME (`struct fuse_rename_in`): moves a name.
 pub struct Rename;
 
-impl TwoPartsValue for Rename {
+impl TwoNamesValue for Rename {
     type Record = RenameIn;
 
     ghost call = { rename_call };
 
-    ghost shows = { λ h r parts. (refl, (refl, tt)) };
+    ghost shows = { λ h r names. (refl, (refl, tt)) };
 
     fn value<'a>(
         head: &InHeader,
         request: &RenameIn,
-        first: &'a [u8],
-        second: &'a [u8],
+        old: Placed<'a>,
+        new: Placed<'a>,
     ) -> FileCall<'a> {
         FileCall::Rename {
             context: Context::from(*head),
             node: head.nodeid,
-            old: first,
+            old,
             new_dir: request.newdir,
-            new: second,
+            new,
             flags: 0,
         }
     }
@@ -61,25 +61,25 @@ const RENAME_FLAGS: u32 = 7;
 /// RENAME2 (`struct fuse_rename2_in`): moves a name, with the known flags of `renameat2(2)`.
 pub struct Rename2;
 
-impl TwoPartsValue for Rename2 {
+impl TwoNamesValue for Rename2 {
     type Record = Rename2In;
 
     ghost call = { rename2_call };
 
-    ghost shows = { λ h r parts. (refl, (refl, tt)) };
+    ghost shows = { λ h r names. (refl, (refl, tt)) };
 
     fn value<'a>(
         head: &InHeader,
         request: &Rename2In,
-        first: &'a [u8],
-        second: &'a [u8],
+        old: Placed<'a>,
+        new: Placed<'a>,
     ) -> FileCall<'a> {
         FileCall::Rename {
             context: Context::from(*head),
             node: head.nodeid,
-            old: first,
+            old,
             new_dir: request.newdir,
-            new: second,
+            new,
             flags: request.flags & RENAME_FLAGS,
         }
     }

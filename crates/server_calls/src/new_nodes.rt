@@ -1,13 +1,14 @@
 //! Requests that create a node.
 
-ghost use Rattle.std.specs.Prelude.{◌≡◌, [], refl};
+ghost use Rattle.std.specs.Prelude.{◌≡◌, ℕ, List, [], refl};
+ghost use Rattle.fuse_values.specs.Places.{CallStandsIn, LabelStandsIn, NameStandsIn};
 ghost use Rattle.fuse_values.specs.Values.{call_of, received_extra};
 ghost use Rattle.server_calls.specs.Requests.{mknod_call, mkdir_call, create_call, symlink_call};
 
 use crate::values::NewNameValue;
 use fuse_fs::Context;
 use fuse_in::{CreateIn, InHeader, MkdirIn, MknodIn};
-use fuse_values::{FileCall, Received};
+use fuse_values::{FileCall, Placed, Received};
 use fuse_wire::constants::OPEN_KILL_SUIDGID;
 
 /// MKNOD (`struct fuse_mknod_in`): creates a node of the kind in `mode`.
@@ -23,7 +24,7 @@ impl NewNameValue for Mknod {
     fn value<'a>(
         head: &InHeader,
         request: &MknodIn,
-        name: &'a [u8],
+        name: Placed<'a>,
         extra: Received<'a>,
     ) -> FileCall<'a> {
         FileCall::Mknod {
@@ -51,7 +52,7 @@ impl NewNameValue for Mkdir {
     fn value<'a>(
         head: &InHeader,
         request: &MkdirIn,
-        name: &'a [u8],
+        name: Placed<'a>,
         extra: Received<'a>,
     ) -> FileCall<'a> {
         FileCall::Mkdir {
@@ -78,7 +79,7 @@ impl NewNameValue for Create {
     fn value<'a>(
         head: &InHeader,
         request: &CreateIn,
-        name: &'a [u8],
+        name: Placed<'a>,
         extra: Received<'a>,
     ) -> FileCall<'a> {
         FileCall::Create {
@@ -97,12 +98,17 @@ impl NewNameValue for Create {
 /// SYMLINK: creates a symbolic link to `link`.
 pub fn symlink_value<'a>(
     head: &InHeader,
-    link: &'a [u8],
-    name: &'a [u8],
+    link: Placed<'a>,
+    name: Placed<'a>,
     extra: Received<'a>,
 ) -> FileCall<'a>
-    ensures { call_of [] result ≡ symlink_call head.now
-        (record { name = name.now; link = link.now; extra = received_extra extra.entry }) }
+    ensures reads { call_of [] result ≡ symlink_call head.now (record {
+      name = name.entry.bytes.now;
+      link = link.entry.bytes.now;
+      extra = received_extra extra.entry;
+    }) }
+    ensures places { (all : List ℕ) → NameStandsIn all name.entry → NameStandsIn all link.entry
+        → LabelStandsIn all extra.entry.secctx → CallStandsIn all result }
 {
     FileCall::Symlink {
         context: Context::from(*head),

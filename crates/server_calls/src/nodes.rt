@@ -10,7 +10,7 @@ use crate::values::{NameValue, PlainValue, RecordValue, number_if};
 use bitflags::Flags;
 use fuse_fs::Context;
 use fuse_in::{AccessIn, ForgetIn, GetattrIn, InHeader, SetattrIn};
-use fuse_values::FileCall;
+use fuse_values::{FileCall, Placed};
 use fuse_wire::SetattrValid;
 use fuse_wire::constants::{FATTR_FH, GETATTR_FH};
 
@@ -22,7 +22,7 @@ impl NameValue for Lookup {
 
     ghost shows = { λ h name. (refl, (refl, refl)) };
 
-    fn value<'a>(head: &InHeader, name: &'a [u8]) -> FileCall<'a> {
+    fn value<'a>(head: &InHeader, name: Placed<'a>) -> FileCall<'a> {
         FileCall::Lookup {
             context: Context::from(*head),
             node: head.nodeid,
@@ -39,7 +39,7 @@ impl NameValue for Unlink {
 
     ghost shows = { λ h name. (refl, (refl, tt)) };
 
-    fn value<'a>(head: &InHeader, name: &'a [u8]) -> FileCall<'a> {
+    fn value<'a>(head: &InHeader, name: Placed<'a>) -> FileCall<'a> {
         FileCall::Unlink {
             context: Context::from(*head),
             node: head.nodeid,
@@ -56,7 +56,7 @@ impl NameValue for Rmdir {
 
     ghost shows = { λ h name. (refl, (refl, tt)) };
 
-    fn value<'a>(head: &InHeader, name: &'a [u8]) -> FileCall<'a> {
+    fn value<'a>(head: &InHeader, name: Placed<'a>) -> FileCall<'a> {
         FileCall::Rmdir {
             context: Context::from(*head),
             node: head.nodeid,
@@ -73,7 +73,7 @@ impl NameValue for Removexattr {
 
     ghost shows = { λ h name. (refl, (refl, tt)) };
 
-    fn value<'a>(head: &InHeader, name: &'a [u8]) -> FileCall<'a> {
+    fn value<'a>(head: &InHeader, name: Placed<'a>) -> FileCall<'a> {
         FileCall::Removexattr {
             context: Context::from(*head),
             node: head.nodeid,

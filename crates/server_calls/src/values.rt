@@ -4,13 +4,14 @@ ghost use Rattle.std.specs.Prelude.{◌≡◌, ℕ, List, [], true};
 ghost use Rattle.fuse_in.specs.declared.session.InHeader.{InHeader};
 ghost use Rattle.fuse_fs.specs.Calls as call;
 ghost use Rattle.fuse_fs.specs.Calls.{Extra};
+ghost use Rattle.fuse_values.specs.Places.{CallStandsIn, LabelStandsIn, NameStandsIn};
 ghost use Rattle.fuse_values.specs.Values.{call_of, received_extra};
 ghost use Rattle.server_calls.specs.Callers.{CallShows, Header, Named, NamedRecord, Made, shape_of};
 ghost use Rattle.server_calls.specs.Callers.{is_record};
 ghost use Rattle.server_calls.specs.Requests.{if_set};
 
 use fuse_in::{InHeader, InRecord};
-use fuse_values::{FileCall, Received};
+use fuse_values::{FileCall, Placed, Received};
 
 /// A number, if its flag is set.
 pub fn number_if(reported: bool, number: u64) -> Option<u64>
@@ -29,7 +30,8 @@ pub trait PlainValue {
 
     /// The call.
     fn value<'a>(head: &InHeader) -> FileCall<'a>
-        ensures { call_of [] result ≡ call head.now };
+        ensures reads { call_of [] result ≡ call head.now }
+        ensures places { (all : List ℕ) → CallStandsIn all result };
 }
 
 /// A request that is one record.
@@ -45,7 +47,8 @@ pub trait RecordValue {
 
     /// The call.
     fn value<'a>(head: &InHeader, request: &Self::Record) -> FileCall<'a>
-        ensures { call_of [] result ≡ call head.now request.now };
+        ensures reads { call_of [] result ≡ call head.now request.now }
+        ensures places { (all : List ℕ) → CallStandsIn all result };
 }
 
 /// A request that is one name.
@@ -58,8 +61,9 @@ pub trait NameValue {
         → (shape_of (call h name) ≡ Named) × CallShows h (call h name) };
 
     /// The call.
-    fn value<'a>(head: &InHeader, name: &'a [u8]) -> FileCall<'a>
-        ensures { call_of [] result ≡ call head.now name.now };
+    fn value<'a>(head: &InHeader, name: Placed<'a>) -> FileCall<'a>
+        ensures reads { call_of [] result ≡ call head.now name.entry.bytes.now }
+        ensures places { (all : List ℕ) → NameStandsIn all name.entry → CallStandsIn all result };
 }
 
 /// A request that is one record and one name.
@@ -74,29 +78,33 @@ pub trait RecordNameValue {
         → (shape_of (call h r name) ≡ NamedRecord) × CallShows h (call h r name) };
 
     /// The call.
-    fn value<'a>(head: &InHeader, request: &Self::Record, name: &'a [u8]) -> FileCall<'a>
-        ensures { call_of [] result ≡ call head.now request.now name.now };
+    fn value<'a>(head: &InHeader, request: &Self::Record, name: Placed<'a>) -> FileCall<'a>
+        ensures reads { call_of [] result ≡ call head.now request.now name.entry.bytes.now }
+        ensures places { (all : List ℕ) → NameStandsIn all name.entry → CallStandsIn all result };
 }
 
-/// A request that is one record and two parts: two names, or a name and a value.
-pub trait TwoPartsValue {
+/// A request that is one record and two names.
+pub trait TwoNamesValue {
     type Record: InRecord;
 
     // The call of the request.
     ghost call: { InHeader → Self.Record → List ℕ × List ℕ → call.FileCall };
 
     // The call has this shape, and is made for the request's sender.
-    ghost shows: { (h : InHeader) (r : Self.Record) (parts : List ℕ × List ℕ)
-        → (shape_of (call h r parts) ≡ NamedRecord) × CallShows h (call h r parts) };
+    ghost shows: { (h : InHeader) (r : Self.Record) (names : List ℕ × List ℕ)
+        → (shape_of (call h r names) ≡ NamedRecord) × CallShows h (call h r names) };
 
     /// The call.
     fn value<'a>(
         head: &InHeader,
         request: &Self::Record,
-        first: &'a [u8],
-        second: &'a [u8],
+        old: Placed<'a>,
+        new: Placed<'a>,
     ) -> FileCall<'a>
-        ensures { call_of [] result ≡ call head.now request.now (first.now, second.now) };
+        ensures reads { call_of [] result
+            ≡ call head.now request.now (old.entry.bytes.now, new.entry.bytes.now) }
+        ensures places { (all : List ℕ) → NameStandsIn all old.entry → NameStandsIn all new.entry
+            → CallStandsIn all result };
 }
 
 /// A request that is one record and the name of a new node.
@@ -114,8 +122,11 @@ pub trait NewNameValue {
     fn value<'a>(
         head: &InHeader,
         request: &Self::Record,
-        name: &'a [u8],
+        name: Placed<'a>,
         extra: Received<'a>,
     ) -> FileCall<'a>
-        ensures { call_of [] result ≡ call head.now request.now (name.now, received_extra extra.entry) };
+        ensures reads { call_of [] result
+            ≡ call head.now request.now (name.entry.bytes.now, received_extra extra.entry) }
+        ensures places { (all : List ℕ) → NameStandsIn all name.entry
+            → LabelStandsIn all extra.entry.secctx → CallStandsIn all result };
 }

@@ -1,13 +1,15 @@
 //! Requests about extended attributes.
 
-ghost use Rattle.std.specs.Prelude.{◌≡◌, bit_and, refl};
+ghost use Rattle.std.specs.Prelude.{◌≡◌, ℕ, List, [], bit_and, refl};
+ghost use Rattle.fuse_values.specs.Places.{CallStandsIn, NameStandsIn, StandsIn};
+ghost use Rattle.fuse_values.specs.Values.{call_of};
 ghost use Rattle.server_calls.specs.Requests.{getxattr_call, listxattr_call, setxattr_call, known_setxattr};
 
-use crate::values::{RecordNameValue, RecordValue, TwoPartsValue};
+use crate::values::{RecordNameValue, RecordValue};
 use bitflags::Flags;
 use fuse_fs::Context;
 use fuse_in::{GetxattrIn, InHeader, SetxattrIn};
-use fuse_values::FileCall;
+use fuse_values::{FileCall, Placed};
 use fuse_wire::SetxattrFlags;
 
 /// GETXATTR (`struct fuse_getxattr_in`): the value of an extended attribute.
@@ -20,7 +22,7 @@ impl RecordNameValue for Getxattr {
 
     ghost shows = { λ h r name. (refl, (refl, tt)) };
 
-    fn value<'a>(head: &InHeader, request: &GetxattrIn, name: &'a [u8]) -> FileCall<'a> {
+    fn value<'a>(head: &InHeader, request: &GetxattrIn, name: Placed<'a>) -> FileCall<'a> {
         FileCall::Getxattr {
             context: Context::from(*head),
             node: head.nodeid,
@@ -58,28 +60,23 @@ fn known(flags: u32) -> SetxattrFlags
 }
 
 /// SETXATTR (`struct fuse_setxattr_in`): sets an extended attribute.
-pub struct Setxattr;
-
-impl TwoPartsValue for Setxattr {
-    type Record = SetxattrIn;
-
-    ghost call = { setxattr_call };
-
-    ghost shows = { λ h r parts. (refl, (refl, tt)) };
-
-    fn value<'a>(
-        head: &InHeader,
-        request: &SetxattrIn,
-        first: &'a [u8],
-        second: &'a [u8],
-    ) -> FileCall<'a> {
-        FileCall::Setxattr {
-            context: Context::from(*head),
-            node: head.nodeid,
-            name: first,
-            value: second,
-            flags: request.flags,
-            extra: known(request.setxattr_flags),
-        }
+pub fn setxattr_value<'a>(
+    head: &InHeader,
+    request: &SetxattrIn,
+    name: Placed<'a>,
+    value: Placed<'a>,
+) -> FileCall<'a>
+    ensures reads { call_of [] result
+        ≡ setxattr_call head.now request.now (name.entry.bytes.now, value.entry.bytes.now) }
+    ensures places { (all : List ℕ) → NameStandsIn all name.entry → StandsIn all value.entry
+        → CallStandsIn all result }
+{
+    FileCall::Setxattr {
+        context: Context::from(*head),
+        node: head.nodeid,
+        name,
+        value,
+        flags: request.flags,
+        extra: known(request.setxattr_flags),
     }
 }

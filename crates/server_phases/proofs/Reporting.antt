@@ -1,6 +1,6 @@
 -- What a request is decoded to: a reply without a call, or one call.
-use Rattle.std.proofs.Common.{◌≡◌, ◌*◌, ◌<◌, ◌≤◌, ◌^◌, ℕ, zero, suc, drop, Bool, true, false, List, [], length, Ok, Err, cond, refl, sym}
-use Rattle.std.proofs.Common.{ap, subst, ◌∙◌, arith}
+use Rattle.std.proofs.Common.{◌≡◌, ◌*◌, ◌<◌, ◌≤◌, ◌^◌, ℕ, zero, suc, drop, Bool, true, false, List, [], ◌++◌, length, Ok, Err, cond, refl}
+use Rattle.std.proofs.Common.{ap, subst, sym, ◌∙◌, arith}
 use Rattle.std.specs.Prelude.{◌/◌, nat_le, nat_lt}
 use Rattle.std.proofs.lemmas.Bool.Decides.{nat_tests}
 use Rattle.fuse_in.specs.declared.session.InHeader.{InHeader}
@@ -23,7 +23,7 @@ use Rattle.virtiofsd_fuse.specs.Serving.{Setting, setting}
 use Rattle.virtiofsd_fuse.proofs.Serve.{ask_of, ended_ask, ended_fault}
 use Rattle.server_phases.specs.declared.asking.DecodedRequest.{DecodedRequest}
 use Rattle.server_phases.specs.declared.asking.DecodedRequest.TheVariants as asked
-use Rattle.server_phases.specs.Asking.{IsDecoded, IsAskedBy, HasAsker, ReportsData, reported_reply}
+use Rattle.server_phases.specs.Asking.{DecodedStandsIn, IsDecoded, IsAskedBy, HasAsker, ReportsData, StandsBehindHeader, reported_reply}
 use Rattle.server_phases.specs.Waiting.{awaits_of, is_one_call}
 
 reply_by : (t : Bool) (page_size options room : ℕ) (reply bytes : List ℕ) → nat_lt room (length reply) ≡ t → 0 < length reply
@@ -41,6 +41,10 @@ pub error_reported : (page_size options room unique errno : ℕ) (bytes : List �
     → IsDecoded (setting page_size options room) (Replies (error_bytes unique errno)) bytes (reported_reply room (error_bytes unique errno))
 error_reported page_size options room unique errno bytes =
     reply_reported page_size options room (error_bytes unique errno) bytes (omega (arith, length_error unique errno))
+
+-- what has no names is decoded from any bytes
+pub behind_any : (bytes : List ℕ) (a : DecodedRequest) → ((request : List ℕ) → DecodedStandsIn request a) → StandsBehindHeader bytes a
+behind_any bytes a any = λ header forty. any (header ++ bytes)
 
 -- what is kept of a call names who sent the header
 pub has_asker : (request left : List ℕ) (head : InHeader) (a : DecodedRequest) → Ok (head, left) ≡ record_parser in_header request →

@@ -1,8 +1,9 @@
 -- A request decoded for the owner of the files.
-use Rattle.std.specs.Prelude.{◌≡◌, ◌==◌, ◌<◌, ◌*◌, ℕ, Bool, true, false, ◌||◌, ◌&&◌, List, [], length, take}
-use Rattle.std.specs.Prelude.{drop, nat_lt, nat_le, Some, None, Ok, if◌then◌else◌}
+use Rattle.std.specs.Prelude.{◌≡◌, ◌==◌, ◌<◌, ◌*◌, ℕ, Bool, true, false, ◌||◌, ◌&&◌, List, [], ◌++◌}
+use Rattle.std.specs.Prelude.{length, take, drop, nat_lt, nat_le, Some, None, Ok, if◌then◌else◌}
 use Rattle.fuse_values.specs.declared.call.FileCall.{FileCall}
 use Rattle.fuse_values.specs.declared.call.FileCall.TheVariants as value
+use Rattle.fuse_values.specs.Places.{CallStandsIn}
 use Rattle.fuse_values.specs.Values.{call_of, pairs_in}
 use Rattle.fuse_in.specs.declared.session.InHeader.{InHeader}
 use Rattle.fuse_in.specs.Records.{in_header}
@@ -24,7 +25,8 @@ use Rattle.server_phases.specs.Waiting.{WaitsFor, first_call}
 abbrev pub ReportsData : (bytes : List ℕ) → FileCall → Type 0
 ReportsData bytes (value.Write context node handle len size offset owner delayed kill flags) =
     len ≡ length bytes
-ReportsData bytes (value.BatchForget context counts) = length counts.now ≡ 16 * length (pairs_in counts.now)
+ReportsData bytes (value.BatchForget context counts) =
+    length counts.bytes.now ≡ 16 * length (pairs_in counts.bytes.now)
 ReportsData bytes _ = Unit {0}
 
 -- the meaning is a command: the call is its first call, and the state has the command's kind of
@@ -48,6 +50,16 @@ IsDecoded s m bytes (asked.Call made w) = AsksCall s m bytes made w
 IsDecoded s m bytes (asked.Reply reply) = (served s m [] ≡ all_reply s.options reply) × (0 < length reply)
 IsDecoded s m bytes asked.Silence = served s m [] ≡ all_reply s.options []
 IsDecoded s m bytes (asked.Fault e) = served s m [] ≡ no_reply [] s.options (Some e)
+
+-- a call's names, values, pairs and label are in the request at their places
+abbrev pub DecodedStandsIn : (request : List ℕ) → DecodedRequest → Type 0
+DecodedStandsIn request (asked.Call made w) = CallStandsIn request made
+DecodedStandsIn request asked = Unit {0}
+
+-- and the request is any header (struct fuse_in_header, 40 bytes) with the bytes behind it
+abbrev pub StandsBehindHeader : (bytes : List ℕ) → DecodedRequest → Type 0
+StandsBehindHeader bytes asked =
+    (header : List ℕ) → length header ≡ 40 → DecodedStandsIn (header ++ bytes) asked
 
 -- a call that waits has this caller
 abbrev pub IsAskedBy : Context → DecodedRequest → Type 0
@@ -92,6 +104,11 @@ is_decoded asked_front.More = false
 abbrev pub IsDecodedByFront : Setting → Meaning → (bytes : List ℕ) → AskedFront → Type 0
 IsDecodedByFront s m bytes (asked_front.Decoded asked) = IsDecoded s m bytes asked
 IsDecodedByFront s m bytes asked_front.More = Unit {0}
+
+-- a call decoded from the first bytes has its names, values, pairs and label there
+abbrev pub FrontStandsIn : (front : List ℕ) → AskedFront → Type 0
+FrontStandsIn front (asked_front.Decoded asked) = DecodedStandsIn front asked
+FrontStandsIn front asked_front.More = Unit {0}
 
 -- a call decoded from the first bytes has the sender of the request as its caller
 abbrev pub HasAskerByFront : (request : List ℕ) → AskedFront → Type 0

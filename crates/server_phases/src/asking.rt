@@ -3,6 +3,7 @@
 ghost use Rattle.std.specs.Prelude.{◌≡◌, ℕ, ◌≤◌, ◌-◌, ◌*◌, ◌^◌, [], List, true, drop, length, bit_and};
 ghost use Rattle.fuse_fs.specs.Answers.{context_of};
 ghost use Rattle.fuse_fs.specs.Calls as call;
+ghost use Rattle.fuse_values.specs.Places.{CallStandsIn, StandsIn};
 ghost use Rattle.fuse_values.specs.Values.{call_of, pairs_in};
 ghost use Rattle.fuse_wire.specs.Opcodes.{opcode_of};
 ghost use Rattle.server_calls.specs.Callers.{CallShows};
@@ -14,13 +15,13 @@ ghost use Rattle.virtiofsd_fuse.specs.Grammar.{known_options, meant, meaning, wr
 ghost use Rattle.virtiofsd_fuse.specs.Listings.{listing_of};
 ghost use Rattle.virtiofsd_fuse.specs.Serving.{Setting, setting};
 ghost use Rattle.server_phases.specs.Asking.{IsDecoded, IsAskedBy, HasAsker, ReportsData, IsRequestFront};
-ghost use Rattle.server_phases.specs.Asking.{BeginsRecord, reported_reply};
+ghost use Rattle.server_phases.specs.Asking.{BeginsRecord, DecodedStandsIn, reported_reply};
 
 use crate::waiting::{Awaits, Waiting, awaits_of};
 use bitflags::Flags;
 use fuse_fs::Context;
 use fuse_in::{InHeader, ReadIn, WriteIn};
-use fuse_values::FileCall;
+use fuse_values::{FileCall, Placed};
 use fuse_wire::constants::READ_LOCKOWNER;
 use fuse_wire::{Errno, FsOptions};
 use server_calls::values::number_if;
@@ -72,6 +73,7 @@ pub(crate) fn refused<'a>(head: &InHeader, error: Errno, room: usize) -> Decoded
     ensures reported { (page_size options : ℕ) (m : Meaning) (bytes : List ℕ)
         → m ≡ Replies (error_bytes head.now.unique error)
         → IsDecoded (setting page_size options room) m bytes result }
+    ensures places { (request : List ℕ) → DecodedStandsIn request result }
     ensures asker { IsAskedBy (context_of head.now) result }
 {
     replied(room, Front::error(head.unique, error))
@@ -83,6 +85,7 @@ pub(crate) fn read_asked<'a>(head: &InHeader, request: &ReadIn, room: usize) -> 
     ensures reported { (page_size options : ℕ) (bytes : List ℕ)
         → IsDecoded (setting page_size options room)
         (Asks (One head.now.unique (read_call head.now (room - 16) request.now))) bytes result }
+    ensures places { (request : List ℕ) → DecodedStandsIn request result }
     ensures asker { IsAskedBy (context_of head.now) result }
 {
     let most = room - OUT_HEADER_LEN;
@@ -98,6 +101,7 @@ pub(crate) fn read_asked<'a>(head: &InHeader, request: &ReadIn, room: usize) -> 
 // The call of a READ with `most` bytes for its data.
 fn read_value<'a>(head: &InHeader, request: &ReadIn, most: usize) -> FileCall<'a>
     ensures call { (bytes : List ℕ) → call_of bytes result ≡ read_call head.now most request.now }
+    ensures places { (request : List ℕ) → CallStandsIn request result }
     ensures data_apart { (bytes : List ℕ) → ReportsData bytes result }
 {
     FileCall::Read {
@@ -124,6 +128,7 @@ pub(crate) fn entries_asked<'a>(
     ensures reported { (page_size options : ℕ) (bytes : List ℕ)
         → IsDecoded (setting page_size options room)
         (Asks (Lists head.now.unique (listing_of with_nodes head.now request.now))) bytes result }
+    ensures places { (request : List ℕ) → DecodedStandsIn request result }
     ensures asker { IsAskedBy (context_of head.now) result }
 {
     let context = Context::from(*head);
@@ -161,6 +166,7 @@ fn write_asked<'a>(
         → len ≡ length bytes
         → IsDecoded (setting page_size options room)
         (Asks (One head.now.unique (write_call head.now request.now bytes))) bytes result }
+    ensures places { (request : List ℕ) → DecodedStandsIn request result }
     ensures asker { IsAskedBy (context_of head.now) result }
 {
     let waiting = Waiting {
@@ -175,6 +181,7 @@ fn write_asked<'a>(
 // The call of a WRITE of `len` bytes, as a value.
 fn write_value<'a>(head: &InHeader, request: &WriteIn, len: usize) -> FileCall<'a>
     ensures call { (bytes : List ℕ) → call_of bytes result ≡ write_call head.now request.now bytes }
+    ensures places { (request : List ℕ) → CallStandsIn request result }
     ensures data_apart { (bytes : List ℕ) → len ≡ length bytes → ReportsData bytes result }
 {
     let reported = write_flags(request);
@@ -200,6 +207,7 @@ pub(crate) fn called<'a>(head: &InHeader, made: FileCall<'a>, room: usize) -> De
         → CallShows head.now c
         → call_of [] made.entry ≡ c
         → IsDecoded s m bytes result }
+    ensures places { (request : List ℕ) → CallStandsIn request made.entry → DecodedStandsIn request result }
     ensures asker { IsAskedBy (context_of head.now) result }
 {
     let awaits = awaits_of(&made);
@@ -213,11 +221,16 @@ pub(crate) fn called<'a>(head: &InHeader, made: FileCall<'a>, room: usize) -> De
 }
 
 /// The call of a BATCH_FORGET; `counts` are the bytes of its pairs.
-pub(crate) fn pairs_asked<'a>(head: &InHeader, counts: &'a [u8], room: usize) -> DecodedRequest<'a>
+pub(crate) fn pairs_asked<'a>(
+    head: &InHeader,
+    counts: Placed<'a>,
+    room: usize,
+) -> DecodedRequest<'a>
     ensures reported { (page_size options : ℕ) (m : Meaning) (bytes : List ℕ)
-        → length counts.now ≡ 16 * length (pairs_in counts.now)
-        → m ≡ Asks (One head.now.unique (batch_forget_call head.now (pairs_in counts.now)))
+        → length counts.entry.bytes.now ≡ 16 * length (pairs_in counts.entry.bytes.now)
+        → m ≡ Asks (One head.now.unique (batch_forget_call head.now (pairs_in counts.entry.bytes.now)))
         → IsDecoded (setting page_size options room) m bytes result }
+    ensures places { (request : List ℕ) → StandsIn request counts.entry → DecodedStandsIn request result }
     ensures asker { IsAskedBy (context_of head.now) result }
 {
     let context = Context::from(*head);
@@ -242,6 +255,7 @@ pub(crate) fn init_asked<'a>(
         → s.room ≡ room
         → m ≡ Asks (Starts head.now.unique capable.0 readahead)
         → IsDecoded s m bytes result }
+    ensures places { (request : List ℕ) → DecodedStandsIn request result }
     ensures asker { IsAskedBy (context_of head.now) result }
 {
     let waiting = Waiting {
@@ -268,6 +282,7 @@ pub(crate) fn ask_write_row<'a>(
         → len ≡ length (drop 40 bytes)
         → IsDecoded (setting page_size options room)
         (ended head.now.unique (write_row (given head.now options room) bytes)) (drop 40 bytes) result }
+    ensures places { (request : List ℕ) → DecodedStandsIn request result }
     ensures asker { IsAskedBy (context_of head.now) result }
 {
     let mut source = source;
@@ -286,6 +301,7 @@ pub(crate) fn ask_write_front<'a>(front: &'a [u8], len: usize, room: usize) -> D
         → len ≡ length request
         → IsRequestFront front.now request
         → IsDecoded (setting page_size options room) (meaning options request room) (drop 80 request) result }
+    ensures places { (request : List ℕ) → DecodedStandsIn request result }
     ensures asker { (request : List ℕ) → IsRequestFront front.now request → HasAsker request result }
 {
     let mut source = Flat { bytes: front };
@@ -308,6 +324,7 @@ fn ask_write_head<'a>(
         → len ≡ length (drop 40 bytes)
         → IsDecoded (setting page_size options room) (meant (given head.now options room) bytes)
         (drop 40 bytes) result }
+    ensures places { (request : List ℕ) → DecodedStandsIn request result }
     ensures asker { IsAskedBy (context_of head.now) result }
 {
     if head.len > MAX_REQUEST_LEN {

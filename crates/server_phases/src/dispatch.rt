@@ -4,7 +4,7 @@ ghost use Rattle.std.specs.Prelude.{drop};
 ghost use Rattle.fuse_fs.specs.Answers.{context_of};
 ghost use Rattle.virtiofsd_fuse.specs.Grammar.{given, meant, row};
 ghost use Rattle.virtiofsd_fuse.specs.Serving.{setting};
-ghost use Rattle.server_phases.specs.Asking.{IsAskedBy, IsRowReported, IsDecoded};
+ghost use Rattle.server_phases.specs.Asking.{IsAskedBy, IsRowReported, IsDecoded, StandsBehindHeader};
 
 use crate::asking::{DecodedRequest, refused};
 use crate::session::Session;
@@ -26,6 +26,7 @@ impl Session {
         ensures reported { IsRowReported self.now.page_size self.now.options.0 head.now room
             (λ g. row g opcode)
             source.entry.bytes.now result }
+        ensures places { StandsBehindHeader source.entry.bytes.now result }
         ensures asker { IsAskedBy (context_of head.now) result }
     {
         match opcode {
@@ -40,6 +41,7 @@ impl Session {
     }
 
     /// Decodes a request whose header was read.
+    #[tactic(auto, using(crate::proofs::Reporting::behind_any))]
     pub(crate) fn ask_head<'a>(
         &self,
         head: &InHeader,
@@ -49,6 +51,7 @@ impl Session {
         ensures reported { IsDecoded (setting self.now.page_size self.now.options.0 room)
             (meant (given head.now self.now.options.0 room) source.entry.bytes.now)
             (drop 40 source.entry.bytes.now) result }
+        ensures places { StandsBehindHeader source.entry.bytes.now result }
         ensures asker { IsAskedBy (context_of head.now) result }
     {
         if head.len > MAX_REQUEST_LEN {

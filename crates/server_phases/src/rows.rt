@@ -1,12 +1,13 @@
 //! Decoding requests by the row of their opcode.
 
-ghost use Rattle.std.specs.Prelude.{◌≡◌, ◌≤◌, ℕ, List, true};
+ghost use Rattle.std.specs.Prelude.{◌≡◌, ◌≤◌, ℕ, List, ◌++◌, length, true};
 ghost use Rattle.fuse_fs.specs.Answers.{context_of};
 ghost use Rattle.virtiofsd_fuse.specs.Grammar.{row, forgets_asked, batch_forget_row, init_row, listing_row};
 ghost use Rattle.virtiofsd_fuse.specs.Grammar.{read_row, write_row, ended, given};
 ghost use Rattle.virtiofsd_fuse.specs.RowMeanings.{is_single};
 ghost use Rattle.virtiofsd_fuse.specs.Serving.{setting};
-ghost use Rattle.server_phases.specs.Asking.{IsAskedBy, IsRowReported, IsDecoded};
+ghost use Rattle.server_phases.specs.Asking.{DecodedStandsIn, IsAskedBy, IsRowReported, IsDecoded};
+ghost use Rattle.server_phases.specs.Asking.{StandsBehindHeader};
 
 use crate::asking::{
     DecodedRequest, WRITE_IN_LEN, ask_write_row, called, entries_asked, init_asked, pairs_asked,
@@ -25,6 +26,7 @@ use virtiofsd_fuse::{
 
 impl Session {
     /// Decodes a request with one plain call, or with none.
+    #[tactic(auto, using(crate::proofs::Reporting::behind_any))]
     pub(crate) fn ask_single<'a>(
         &self,
         opcode: Opcode,
@@ -36,6 +38,7 @@ impl Session {
         ensures reported { IsRowReported self.now.page_size self.now.options.0 head.now room
             (λ g. row g opcode)
             source.entry.bytes.now result }
+        ensures places { StandsBehindHeader source.entry.bytes.now result }
         ensures asker { IsAskedBy (context_of head.now) result }
     {
         match row_meaning(opcode, head, self.options, source) {
@@ -58,6 +61,8 @@ impl Session {
         ensures reported { (bytes : List ℕ) → IsDecoded (setting self.now.page_size self.now.options.0 room)
             (ended head.now.unique (forgets_asked count (given head.now self.now.options.0 room)
             source.entry.bytes.now)) bytes result }
+        ensures places { (front : List ℕ) → length front ≡ 48
+            → DecodedStandsIn (front ++ source.entry.bytes.now) result }
         ensures asker { IsAskedBy (context_of head.now) result }
     {
         match source.pairs(count) {
@@ -67,6 +72,7 @@ impl Session {
     }
 
     /// BATCH_FORGET.
+    #[tactic(auto, using(crate::proofs::Reporting::behind_any))]
     pub(crate) fn ask_batch_forget<'a>(
         &self,
         head: &InHeader,
@@ -75,6 +81,7 @@ impl Session {
     ) -> DecodedRequest<'a>
         ensures reported { IsRowReported self.now.page_size self.now.options.0 head.now room batch_forget_row
             source.entry.bytes.now result }
+        ensures places { StandsBehindHeader source.entry.bytes.now result }
         ensures asker { IsAskedBy (context_of head.now) result }
     {
         let mut source = source;
@@ -86,6 +93,7 @@ impl Session {
     }
 
     /// READ.
+    #[tactic(auto, using(crate::proofs::Reporting::behind_any))]
     pub(crate) fn ask_read<'a>(
         &self,
         head: &InHeader,
@@ -94,6 +102,7 @@ impl Session {
     ) -> DecodedRequest<'a>
         ensures reported { IsRowReported self.now.page_size self.now.options.0 head.now room read_row
             source.entry.bytes.now result }
+        ensures places { StandsBehindHeader source.entry.bytes.now result }
         ensures asker { IsAskedBy (context_of head.now) result }
     {
         match read_with_room(room, source) {
@@ -103,6 +112,7 @@ impl Session {
     }
 
     /// READDIR or READDIRPLUS.
+    #[tactic(auto, using(crate::proofs::Reporting::behind_any))]
     pub(crate) fn ask_listing<'a>(
         &self,
         head: &InHeader,
@@ -113,6 +123,7 @@ impl Session {
         ensures reported { IsRowReported self.now.page_size self.now.options.0 head.now room
             (listing_row with_nodes)
             source.entry.bytes.now result }
+        ensures places { StandsBehindHeader source.entry.bytes.now result }
         ensures asker { IsAskedBy (context_of head.now) result }
     {
         match listing_meaning(room, source) {
@@ -123,6 +134,7 @@ impl Session {
     }
 
     /// INIT.
+    #[tactic(auto, using(crate::proofs::Reporting::behind_any))]
     pub(crate) fn ask_init<'a>(
         &self,
         head: &InHeader,
@@ -131,6 +143,7 @@ impl Session {
     ) -> DecodedRequest<'a>
         ensures reported { IsRowReported self.now.page_size self.now.options.0 head.now room init_row
             source.entry.bytes.now result }
+        ensures places { StandsBehindHeader source.entry.bytes.now result }
         ensures asker { IsAskedBy (context_of head.now) result }
     {
         match init_meaning(source) {
@@ -142,6 +155,7 @@ impl Session {
     }
 
     /// WRITE with its data behind the record.
+    #[tactic(auto, using(crate::proofs::Reporting::behind_any))]
     pub(crate) fn ask_write<'a>(
         &self,
         head: &InHeader,
@@ -150,6 +164,7 @@ impl Session {
     ) -> DecodedRequest<'a>
         ensures reported { IsRowReported self.now.page_size self.now.options.0 head.now room write_row
             source.entry.bytes.now result }
+        ensures places { StandsBehindHeader source.entry.bytes.now result }
         ensures asker { IsAskedBy (context_of head.now) result }
     {
         let len = source.bytes.len().saturating_sub(WRITE_IN_LEN);

@@ -5,7 +5,8 @@ ghost use Rattle.server_replies.specs.PageSizes.{is_page_size};
 ghost use Rattle.virtiofsd_fuse.specs.Grammar.{meaning, known_options};
 ghost use Rattle.virtiofsd_fuse.specs.Serving.{setting};
 ghost use Rattle.server_phases.specs.Asking.{IsDecoded, HasAsker, HasAskerByFront, IsRequestFront};
-ghost use Rattle.server_phases.specs.Asking.{IsDecodedByFront, front_suffices, is_decoded};
+ghost use Rattle.server_phases.specs.Asking.{DecodedStandsIn, FrontStandsIn, IsDecodedByFront};
+ghost use Rattle.server_phases.specs.Asking.{front_suffices, is_decoded};
 
 use crate::asking::{AskedFront, DecodedRequest, ask_write_front};
 use bitflags::Flags;
@@ -68,6 +69,7 @@ impl Session {
     pub fn ask<'a>(&self, request: &'a [u8], room: usize) -> DecodedRequest<'a>
         ensures reported { IsDecoded (setting self.now.page_size self.now.options.0 room)
             (meaning self.now.options.0 request.now room) (drop 80 request.now) result }
+        ensures places { DecodedStandsIn request.now result }
         ensures asker { HasAsker request.now result }
     {
         let mut source = Flat { bytes: request };
@@ -87,6 +89,7 @@ impl Session {
             → IsRequestFront front.now request
             → IsDecodedByFront (setting self.now.page_size self.now.options.0 room)
             (meaning self.now.options.0 request room) (drop 80 request) result }
+        ensures places { FrontStandsIn front.now result }
         ensures asker { (request : List ℕ)
             → len ≡ length request
             → IsRequestFront front.now request

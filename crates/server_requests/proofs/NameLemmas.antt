@@ -103,20 +103,18 @@ name_of : (bs name more : List ℕ) → at_zero bs ≡ Some (name, more) →
 unfolding last_name
 name_of bs name more e = rw e (last_part name (length more == 0))
 
-pub named : (bs : List ℕ) (i : ℕ) → position (λ b. b == 0) bs ≡ Some i → i + 1 ≡ length bs → value_of (last_name bs) ≡ Ok (take i bs)
-named bs i e h =
-    let none : length (drop (i + 1) bs) ≡ 0 = simp length-drop (omega (arith, h)) in
-    name_of bs (take i bs) (drop (i + 1) bs) (at_some bs i e) ∙ rw none refl
+pub named : (bs name more : List ℕ) → at_zero bs ≡ Some (name, more) → length more ≡ 0 → value_of (last_name bs) ≡ Ok name
+named bs name more e h = name_of bs name more e ∙ rw h refl
 
-pub unnamed : (bs : List ℕ) (i : ℕ) → position (λ b. b == 0) bs ≡ Some i → i + 1 ≢ length bs → i < length bs →
-    value_of (last_name bs) ≡ Err (Faults InvalidCString)
-unnamed bs i e h l =
-    let some : (length (drop (i + 1) bs) == 0) ≡ false = (let d = length-drop (i + 1) bs in grind (arith, nat_tests, d)) in
-    name_of bs (take i bs) (drop (i + 1) bs) (at_some bs i e) ∙ rw some refl
+pub unnamed : (bs name more : List ℕ) → at_zero bs ≡ Some (name, more) → length more ≢ 0
+    → value_of (last_name bs) ≡ Err (Faults InvalidCString)
+unnamed bs name more e h =
+    let some : (length more == 0) ≡ false = grind (arith, nat_tests, h) in
+    name_of bs name more e ∙ rw some refl
 
-pub endless : (bs : List ℕ) → position (λ b. b == 0) bs ≡ None → value_of (last_name bs) ≡ Err (Faults InvalidCString)
+pub endless : (bs : List ℕ) → at_zero bs ≡ None → value_of (last_name bs) ≡ Err (Faults InvalidCString)
 unfolding last_name
-endless bs e = rw (at_none bs e) refl
+endless bs e = rw e refl
 
 first_named : (bs old more : List ℕ) → at_zero bs ≡ Some (old, more) → value_of (two_names bs) ≡ second_of old (value_of (last_name more))
 unfolding two_names

@@ -1,9 +1,10 @@
 //! The extensions after the names of a request that creates a node.
 
-ghost use Rattle.std.specs.Prelude.{◌≡◌, ◌+◌, ◌<◌, ◌&&◌, ◌||◌, not, nat_le, length, is_none, Ok, Err, IfOk};
-ghost use Rattle.std.specs.Prelude.{IfErr, false};
+ghost use Rattle.std.specs.Prelude.{◌≡◌, ℕ, ◌+◌, ◌<◌, ◌≤◌, ◌&&◌, ◌||◌, not, nat_le, List, take, drop, length};
+ghost use Rattle.std.specs.Prelude.{is_none, None, Ok, Err, IfOk, IfErr, false};
 ghost use Rattle.fuse_fs.specs.Answers.{extra_of, security_of};
 ghost use Rattle.server_requests.specs.Reading.{Faults, outcome, record_parser, value_of};
+ghost use Rattle.fuse_values.specs.Places.{LabelStandsIn, NameStandsIn, StandsIn};
 ghost use Rattle.fuse_values.specs.Values.{label_of, received_extra};
 ghost use Rattle.server_requests.specs.Extras.{takes_security, takes_group, sent_of, nothing_sent};
 ghost use Rattle.server_requests.specs.Extras.{security_context, one_group, part, extension, extensions};
@@ -15,7 +16,7 @@ use crate::names::first_name;
 use bitflags::Flags;
 use fuse_fs::{Extensions, SecContext};
 use fuse_in::InRecord;
-use fuse_values::{Label, Received};
+use fuse_values::{Label, Placed, Received};
 use fuse_wire::{ExtHeader, FsOptions, GuestGid, Secctx, SuppGroups};
 use server_segments::Error;
 use std::alloc::{AllocError, Global};
@@ -25,7 +26,7 @@ use vm_values::ByteValued;
 #[derive(Clone, Copy)]
 struct WithRest<'a, T> {
     record: T,
-    rest: &'a [u8],
+    rest: Placed<'a>,
 }
 
 // The extensions read so far, and whether one of them was a security context, maybe an empty one.
@@ -39,7 +40,7 @@ struct SoFar<'a> {
 #[derive(Clone, Copy)]
 struct ParseProgress<'a> {
     sent: SoFar<'a>,
-    rest: &'a [u8],
+    rest: Placed<'a>,
 }
 
 // Whether FUSE_SECURITY_CTX is agreed.
@@ -56,47 +57,71 @@ fn takes_group(options: FsOptions) -> bool
     (options & FsOptions::CREATE_SUPP_GROUP).bits() != 0
 }
 
-// The record at the front, or `DecodeMessage` if it is cut short.
-fn front_record<T: InRecord>(bytes: &[u8]) -> Result<WithRest<'_, T>, Error>
-    ensures reads { IfOk result (λ x. Ok (x.record, x.rest.now) ≡ record_parser T.shape bytes.now) }
-    ensures fault { IfErr result (λ e. (Err (Faults e) ≡ record_parser T.shape bytes.now)
-        × (is_memory e ≡ false)) }
-    ensures len { IfOk result (λ x. length x.rest.now + T.SIZE ≡ length bytes.now) }
+// The first `n` bytes, and those after them.
+fn split_placed(bytes: Placed<'_>, n: usize) -> (Placed<'_>, Placed<'_>)
+    requires { n ≤ length bytes.bytes.now }
+    ensures front { result.0.bytes.now ≡ take n bytes.entry.bytes.now }
+    ensures back { result.1.bytes.now ≡ drop n bytes.entry.bytes.now }
+    ensures len { length result.0.bytes.now ≡ n }
+    ensures rest { length result.1.bytes.now + n ≡ length bytes.entry.bytes.now }
+    ensures places { (request : List ℕ) → StandsIn request bytes.entry
+        → StandsIn request result.0 × StandsIn request result.1 }
 {
-    if bytes.len() < T::SIZE {
+    let (front, rest) = bytes.bytes.split_at(n);
+    let at = bytes.at + n as u32;
+    (
+        Placed {
+            bytes: front,
+            at: bytes.at,
+        },
+        Placed { bytes: rest, at },
+    )
+}
+
+// The record at the front, or `DecodeMessage` if it is cut short.
+fn front_record<T: InRecord>(bytes: Placed<'_>) -> Result<WithRest<'_, T>, Error>
+    ensures reads { IfOk result
+        (λ x. Ok (x.record, x.rest.bytes.now) ≡ record_parser T.shape bytes.entry.bytes.now) }
+    ensures fault { IfErr result (λ e. (Err (Faults e) ≡ record_parser T.shape bytes.entry.bytes.now)
+        × (is_memory e ≡ false)) }
+    ensures len { IfOk result (λ x. length x.rest.bytes.now + T.SIZE ≡ length bytes.entry.bytes.now) }
+    ensures places { IfOk result
+        (λ x. (request : List ℕ) → StandsIn request bytes.entry → StandsIn request x.rest) }
+{
+    if bytes.bytes.len() < T::SIZE {
         return Err(Error::DecodeMessage);
     }
-    let (front, rest) = bytes.split_at(T::SIZE);
+    let (front, rest) = split_placed(bytes, T::SIZE);
     Ok(WithRest {
-        record: T::get_bytes(front),
+        record: T::get_bytes(front.bytes),
         rest,
     })
 }
 
 // A security context that isn't empty: its record, its name with a zero byte, and `size` bytes of label.
 #[tactic(auto, using(crate::proofs::ExtraLemmas::label_cases))]
-fn security_context(bytes: &[u8]) -> Result<Label<'_>, Error>
-    ensures reads { outcome label_of result ≡ value_of (security_context bytes.now) }
+fn security_context(bytes: Placed<'_>) -> Result<Label<'_>, Error>
+    ensures reads { outcome label_of result ≡ value_of (security_context bytes.entry.bytes.now) }
     ensures fault { IfErr result (λ e. is_memory e ≡ false) }
+    ensures places { IfOk result (λ label. (request : List ℕ) → StandsIn request bytes.entry
+        → NameStandsIn request label.name × StandsIn request label.secctx) }
 {
     match front_record::<Secctx>(bytes) {
         Ok(head) => {
             if head.record.size == 0 {
                 return Err(Error::DecodeMessage);
             }
-            if head.rest.is_empty() {
+            if head.rest.bytes.is_empty() {
                 return Err(Error::MissingParameter);
             }
             match first_name(head.rest) {
                 Some((name, more)) => {
                     let size = head.record.size as usize;
-                    if more.len() < size {
+                    if more.bytes.len() < size {
                         return Err(Error::DecodeMessage);
                     }
-                    Ok(Label {
-                        name,
-                        secctx: &more[..size],
-                    })
+                    let (secctx, _more) = split_placed(more, size);
+                    Ok(Label { name, secctx })
                 }
                 None => Err(Error::DecodeMessage),
             }
@@ -107,8 +132,8 @@ fn security_context(bytes: &[u8]) -> Result<Label<'_>, Error>
 
 // A group list (`struct fuse_supp_groups`) of exactly one group.
 #[tactic(auto, using(crate::proofs::ExtraLemmas::one_group_cases))]
-fn one_group(bytes: &[u8]) -> Result<u32, Error>
-    ensures reads { outcome (λ n. n) result ≡ value_of (one_group bytes.now) }
+fn one_group(bytes: Placed<'_>) -> Result<u32, Error>
+    ensures reads { outcome (λ n. n) result ≡ value_of (one_group bytes.entry.bytes.now) }
     ensures fault { IfErr result (λ e. is_memory e ≡ false) }
 {
     match front_record::<SuppGroups>(bytes) {
@@ -116,10 +141,10 @@ fn one_group(bytes: &[u8]) -> Result<u32, Error>
             if head.record.nr_groups != 1 {
                 return Err(Error::DecodeMessage);
             }
-            if head.rest.len() < 4 {
+            if head.rest.bytes.len() < 4 {
                 return Err(Error::DecodeMessage);
             }
-            let (group, _more) = head.rest.split_at(4);
+            let (group, _more) = head.rest.bytes.split_at(4);
             Ok(u32::get_bytes(group))
         }
         Err(error) => Err(error),
@@ -146,11 +171,13 @@ fn security_part<'a>(
     options: FsOptions,
     sent: SoFar<'a>,
     kind: u32,
-    bytes: &'a [u8],
+    bytes: Placed<'a>,
 ) -> Result<SoFar<'a>, Error>
     ensures reads { outcome sent_of result
-        ≡ value_of (security_part options.0 (sent_of sent.entry) kind bytes.now) }
+        ≡ value_of (security_part options.0 (sent_of sent.entry) kind bytes.entry.bytes.now) }
     ensures fault { IfErr result (λ e. is_memory e ≡ false) }
+    ensures places { IfOk result (λ x. (request : List ℕ) → StandsIn request bytes.entry
+        → LabelStandsIn request sent.entry.received.secctx → LabelStandsIn request x.received.secctx) }
 {
     if !may_be_context(options, sent.was_sent, kind) {
         return Err(Error::DecodeMessage);
@@ -175,9 +202,16 @@ fn security_part<'a>(
 
 // Adds a group to the extensions so far.
 #[tactic(auto, using(crate::proofs::ExtraLemmas::group_refused, crate::proofs::ExtraLemmas::group_given, crate::proofs::ExtraLemmas::group_fault))]
-fn group_part<'a>(options: FsOptions, sent: SoFar<'a>, bytes: &'a [u8]) -> Result<SoFar<'a>, Error>
-    ensures reads { outcome sent_of result ≡ value_of (group_part options.0 (sent_of sent.entry) bytes.now) }
+fn group_part<'a>(
+    options: FsOptions,
+    sent: SoFar<'a>,
+    bytes: Placed<'a>,
+) -> Result<SoFar<'a>, Error>
+    ensures reads { outcome sent_of result
+        ≡ value_of (group_part options.0 (sent_of sent.entry) bytes.entry.bytes.now) }
     ensures fault { IfErr result (λ e. is_memory e ≡ false) }
+    ensures places { IfOk result (λ x. (request : List ℕ) → StandsIn request bytes.entry
+        → LabelStandsIn request sent.entry.received.secctx → LabelStandsIn request x.received.secctx) }
 {
     if !may_be_group(options, sent.received.sup_gid) {
         return Err(Error::DecodeMessage);
@@ -203,10 +237,13 @@ fn part<'a>(
     options: FsOptions,
     sent: SoFar<'a>,
     kind: u32,
-    bytes: &'a [u8],
+    bytes: Placed<'a>,
 ) -> Result<SoFar<'a>, Error>
-    ensures reads { outcome sent_of result ≡ value_of (part options.0 (sent_of sent.entry) kind bytes.now) }
+    ensures reads { outcome sent_of result
+        ≡ value_of (part options.0 (sent_of sent.entry) kind bytes.entry.bytes.now) }
     ensures fault { IfErr result (λ e. is_memory e ≡ false) }
+    ensures places { IfOk result (λ x. (request : List ℕ) → StandsIn request bytes.entry
+        → LabelStandsIn request sent.entry.received.secctx → LabelStandsIn request x.received.secctx) }
 {
     if kind > EXT_GROUPS {
         return Err(Error::DecodeMessage);
@@ -226,13 +263,17 @@ const EXT_HEADER_LEN: u32 = 8;
 fn extension<'a>(
     options: FsOptions,
     sent: SoFar<'a>,
-    bytes: &'a [u8],
+    bytes: Placed<'a>,
 ) -> Result<ParseProgress<'a>, Error>
-    ensures reads { IfOk result
-        (λ x. Ok (sent_of x.sent, x.rest.now) ≡ extension options.0 (sent_of sent.entry) bytes.now) }
-    ensures fault { IfErr result (λ e. (Err (Faults e) ≡ extension options.0 (sent_of sent.entry) bytes.now)
+    ensures reads { IfOk result (λ x. Ok (sent_of x.sent, x.rest.bytes.now)
+        ≡ extension options.0 (sent_of sent.entry) bytes.entry.bytes.now) }
+    ensures fault { IfErr result
+        (λ e. (Err (Faults e) ≡ extension options.0 (sent_of sent.entry) bytes.entry.bytes.now)
         × (is_memory e ≡ false)) }
-    ensures shorter { IfOk result (λ x. length x.rest.now < length bytes.now) }
+    ensures shorter { IfOk result (λ x. length x.rest.bytes.now < length bytes.entry.bytes.now) }
+    ensures places { IfOk result (λ x. (request : List ℕ) → StandsIn request bytes.entry
+        → LabelStandsIn request sent.entry.received.secctx
+        → StandsIn request x.rest × LabelStandsIn request x.sent.received.secctx) }
 {
     match front_record::<ExtHeader>(bytes) {
         Ok(head) => {
@@ -240,10 +281,10 @@ fn extension<'a>(
                 return Err(Error::InvalidHeaderLength);
             }
             let size = (head.record.size - EXT_HEADER_LEN) as usize;
-            if head.rest.len() < size {
+            if head.rest.bytes.len() < size {
                 return Err(Error::DecodeMessage);
             }
-            let (body, rest) = head.rest.split_at(size);
+            let (body, rest) = split_placed(head.rest, size);
             match part(options, sent, head.record.ext_type, body) {
                 Ok(sent) => Ok(ParseProgress { sent, rest }),
                 Err(error) => Err(error),
@@ -255,7 +296,8 @@ fn extension<'a>(
 
 // No extension so far.
 fn nothing<'a>() -> SoFar<'a>
-    ensures { sent_of result ≡ nothing_sent }
+    ensures sent { sent_of result ≡ nothing_sent }
+    ensures label { result.received.secctx ≡ None }
 {
     SoFar {
         was_sent: false,
@@ -267,15 +309,18 @@ fn nothing<'a>() -> SoFar<'a>
 }
 
 // Reads all extensions.
-fn extensions<'a>(options: FsOptions, bytes: &'a [u8]) -> Result<SoFar<'a>, Error>
-    ensures reads { outcome sent_of result ≡ extensions options.0 (length bytes.now) nothing_sent bytes.now }
+fn extensions<'a>(options: FsOptions, bytes: Placed<'a>) -> Result<SoFar<'a>, Error>
+    ensures reads { outcome sent_of result
+        ≡ extensions options.0 (length bytes.entry.bytes.now) nothing_sent bytes.entry.bytes.now }
     ensures fault { IfErr result (λ e. is_memory e ≡ false) }
+    ensures places { IfOk result (λ x. (request : List ℕ) → StandsIn request bytes.entry
+        → LabelStandsIn request x.received.secctx) }
 {
     let mut progress = ParseProgress {
         sent: nothing(),
         rest: bytes,
     };
-    while !progress.rest.is_empty() {
+    while !progress.rest.bytes.is_empty() {
         progress = extension(options, progress.sent, progress.rest)?;
     }
     Ok(progress.sent)
@@ -302,10 +347,12 @@ fn lacks_context(options: FsOptions, was_sent: bool) -> bool
 #[tactic(auto, using(crate::proofs::ExtraLemmas::extra_ignored))]
 pub(crate) fn received_extensions<'a>(
     options: FsOptions,
-    bytes: &'a [u8],
+    bytes: Placed<'a>,
 ) -> Result<Received<'a>, Error>
-    ensures reads { outcome received_extra result ≡ extra_in options.0 bytes.now }
+    ensures reads { outcome received_extra result ≡ extra_in options.0 bytes.entry.bytes.now }
     ensures fault { IfErr result (λ e. is_memory e ≡ false) }
+    ensures places { IfOk result (λ x. (request : List ℕ) → StandsIn request bytes.entry
+        → LabelStandsIn request x.secctx) }
 {
     if takes_any(options) {
         match extensions(options, bytes) {
@@ -341,8 +388,8 @@ fn owned_label(alloc: Global, label: Label<'_>) -> Result<SecContext, Error>
     ensures ok { IfOk result (λ copy. security_of copy ≡ label_of label.entry) }
     ensures err { IfErr result (λ e. e ≡ Error.OutOfMemory) }
 {
-    let name = copied(alloc, label.name)?;
-    let secctx = copied(alloc, label.secctx)?;
+    let name = copied(alloc, label.name.bytes)?;
+    let secctx = copied(alloc, label.secctx.bytes)?;
     Ok(SecContext { name, secctx })
 }
 

@@ -1,15 +1,16 @@
 //! Names in requests.
 
-ghost use Rattle.std.specs.Prelude.{◌≡◌, ◌-◌, ◌<◌, ◌≤◌, position, ◌==◌, length, ◌++◌, Ok, Err, Some, None};
-ghost use Rattle.std.specs.Prelude.{IfOk, IfErr};
-ghost use Rattle.std.specs.Prelude.{IfSome, IfNone, false};
+ghost use Rattle.std.specs.Prelude.{◌≡◌, ℕ, ◌+◌, ◌-◌, ◌<◌, ◌≤◌, position, ◌==◌, List, length, ◌++◌, Ok, Err};
+ghost use Rattle.std.specs.Prelude.{Some, None, IfOk, IfErr, IfSome, IfNone, false, true};
 ghost use Rattle.std.specs.Cow.{cow_slice_items};
 ghost use Rattle.fuse_fs.specs.Lengths.{first, past};
+ghost use Rattle.fuse_values.specs.Places.{NameStandsIn, StandsIn};
 ghost use Rattle.server_requests.specs.Reading.{Faults, value_of, at_zero, last_name, two_names};
 ghost use Rattle.server_requests.specs.Reading.{name_and_value, front_name};
 ghost use Rattle.server_requests.specs.Fronts.{counted, is_split};
 ghost use Rattle.server_segments.specs.Errors.{is_memory};
 
+use fuse_values::Placed;
 use server_segments::{Error, Reader};
 use std::alloc::Global;
 use std::borrow::CowSlice;
@@ -67,6 +68,8 @@ pub(crate) fn read_counted<'a>(
     requires { fixed ≤ 256 }
     ensures bytes { IfOk result
         (λ bytes. Ok (cow_slice_items bytes) ≡ value_of (counted len fixed r.old.left)) }
+    ensures front { IfOk result (λ bytes. (r.old.left ≡ cow_slice_items bytes ++ r.new.left)
+        × (40 + fixed + length (cow_slice_items bytes) ≡ len)) }
     ensures fault { IfErr result (λ e. is_memory e ≡ false
         → Err (Faults e) ≡ value_of (counted len fixed r.old.left)) }
     ensures in_place { is_split (len - 40 - fixed) r.old.segments ≡ false
@@ -85,27 +88,42 @@ pub(crate) fn read_counted<'a>(
 
 /// The name before the first zero byte, and the bytes after it. None if there is no zero byte.
 #[tactic(auto, using(crate::proofs::NameLemmas::at_split, crate::proofs::NameLemmas::at_none))]
-pub(crate) fn first_name(bytes: &[u8]) -> Option<(&[u8], &[u8])>
-    ensures some { IfSome result (λ p. at_zero bytes.now ≡ Some (p.0.now, p.1.now)) }
-    ensures none { IfNone result (at_zero bytes.now ≡ None) }
+pub(crate) fn first_name(bytes: Placed<'_>) -> Option<(Placed<'_>, Placed<'_>)>
+    ensures some { IfSome result
+        (λ p. at_zero bytes.entry.bytes.now ≡ Some (p.0.bytes.now, p.1.bytes.now)) }
+    ensures none { IfNone result (at_zero bytes.entry.bytes.now ≡ None) }
+    ensures places { IfSome result (λ p. (request : List ℕ) → StandsIn request bytes.entry
+        → NameStandsIn request p.0 × StandsIn request p.1) }
 {
-    match zero_at(bytes) {
-        Some(end) => Some((&bytes[..end], &bytes[end + 1..])),
+    match zero_at(bytes.bytes) {
+        Some(end) => {
+            let name = Placed {
+                bytes: &bytes.bytes[..end],
+                at: bytes.at,
+            };
+            let rest = Placed {
+                bytes: &bytes.bytes[end + 1..],
+                at: bytes.at + end as u32 + 1,
+            };
+            Some((name, rest))
+        }
         None => None,
     }
 }
 
 /// The one name in these bytes. `InvalidCString` unless they end with their only zero byte.
 #[tactic(auto, using(crate::proofs::NameLemmas::named, crate::proofs::NameLemmas::unnamed, crate::proofs::NameLemmas::endless))]
-pub fn last_name(bytes: &[u8]) -> Result<&[u8], Error>
-    ensures ok { IfOk result (λ name. Ok name.now ≡ value_of (last_name bytes.now)) }
-    ensures err { IfErr result (λ e. (Err (Faults e) ≡ value_of (last_name bytes.now))
+pub fn last_name(bytes: Placed<'_>) -> Result<Placed<'_>, Error>
+    ensures ok { IfOk result (λ name. Ok name.bytes.now ≡ value_of (last_name bytes.entry.bytes.now)) }
+    ensures err { IfErr result (λ e. (Err (Faults e) ≡ value_of (last_name bytes.entry.bytes.now))
         × (is_memory e ≡ false)) }
+    ensures places { IfOk result
+        (λ name. (request : List ℕ) → StandsIn request bytes.entry → NameStandsIn request name) }
 {
-    match zero_at(bytes) {
-        Some(end) => {
-            if end + 1 == bytes.len() {
-                Ok(&bytes[..end])
+    match first_name(bytes) {
+        Some((name, rest)) => {
+            if rest.bytes.is_empty() {
+                Ok(name)
             } else {
                 Err(Error::InvalidCString)
             }
@@ -117,11 +135,14 @@ pub fn last_name(bytes: &[u8]) -> Result<&[u8], Error>
 /// The two names in these bytes, each ended by a zero byte. Errors, in this order:
 /// - `MissingParameter`: there is no zero byte
 /// - `InvalidCString`: the second zero byte is missing, or isn't the last byte
-#[tactic(auto, using(crate::proofs::NameLemmas::both_named, crate::proofs::NameLemmas::second_unnamed, crate::proofs::NameLemmas::first_missing))]
-pub fn two_names(bytes: &[u8]) -> Result<(&[u8], &[u8]), Error>
-    ensures ok { IfOk result (λ p. Ok (p.0.now, p.1.now) ≡ value_of (two_names bytes.now)) }
-    ensures err { IfErr result (λ e. (Err (Faults e) ≡ value_of (two_names bytes.now))
+#[tactic(auto, using(crate::proofs::NameLemmas::both_named, crate::proofs::NameLemmas::first_missing))]
+pub fn two_names(bytes: Placed<'_>) -> Result<(Placed<'_>, Placed<'_>), Error>
+    ensures ok { IfOk result
+        (λ p. Ok (p.0.bytes.now, p.1.bytes.now) ≡ value_of (two_names bytes.entry.bytes.now)) }
+    ensures err { IfErr result (λ e. (Err (Faults e) ≡ value_of (two_names bytes.entry.bytes.now))
         × (is_memory e ≡ false)) }
+    ensures places { IfOk result (λ p. (request : List ℕ) → StandsIn request bytes.entry
+        → NameStandsIn request p.0 × NameStandsIn request p.1) }
 {
     match first_name(bytes) {
         Some((old, rest)) => match last_name(rest) {
@@ -136,17 +157,20 @@ pub fn two_names(bytes: &[u8]) -> Result<(&[u8], &[u8]), Error>
 /// - `MissingParameter`: there is no zero byte
 /// - `InvalidXattrSize`, with both lengths: the value's length isn't `size`
 #[tactic(auto, using(crate::proofs::NameLemmas::valued, crate::proofs::NameLemmas::value_sized, crate::proofs::NameLemmas::value_unnamed))]
-pub fn name_and_value(bytes: &[u8], size: u32) -> Result<(&[u8], &[u8]), Error>
-    ensures ok { IfOk result (λ p. Ok (p.0.now, p.1.now) ≡ value_of (name_and_value size bytes.now)) }
-    ensures err { IfErr result (λ e. (Err (Faults e) ≡ value_of (name_and_value size bytes.now))
+pub fn name_and_value(bytes: Placed<'_>, size: u32) -> Result<(Placed<'_>, Placed<'_>), Error>
+    ensures ok { IfOk result
+        (λ p. Ok (p.0.bytes.now, p.1.bytes.now) ≡ value_of (name_and_value size bytes.entry.bytes.now)) }
+    ensures err { IfErr result (λ e. (Err (Faults e) ≡ value_of (name_and_value size bytes.entry.bytes.now))
         × (is_memory e ≡ false)) }
+    ensures places { IfOk result (λ p. (request : List ℕ) → StandsIn request bytes.entry
+        → NameStandsIn request p.0 × StandsIn request p.1) }
 {
     match first_name(bytes) {
         Some((name, value)) => {
-            if size as usize == value.len() {
+            if size as usize == value.bytes.len() {
                 Ok((name, value))
             } else {
-                Err(Error::InvalidXattrSize((size, value.len())))
+                Err(Error::InvalidXattrSize((size, value.bytes.len())))
             }
         }
         None => Err(Error::MissingParameter),
@@ -156,19 +180,23 @@ pub fn name_and_value(bytes: &[u8], size: u32) -> Result<(&[u8], &[u8]), Error>
 /// A name at the front, whether a zero byte ends it, and the bytes after it.
 #[derive(Clone, Copy)]
 pub(crate) struct FrontName<'a> {
-    pub name: &'a [u8],
+    pub name: Placed<'a>,
     pub ends: bool,
-    pub rest: &'a [u8],
+    pub rest: Placed<'a>,
 }
 
 /// The name before the first zero byte, or all bytes if there is none. `MissingParameter` if there
 /// is no byte.
 #[tactic(auto, using(crate::proofs::NameLemmas::front_empty, crate::proofs::NameLemmas::front_ended, crate::proofs::NameLemmas::front_endless))]
-pub(crate) fn front_name(bytes: &[u8]) -> Result<FrontName<'_>, Error>
-    ensures reads { IfOk result (λ x. Ok ((x.name.now, x.ends), x.rest.now) ≡ front_name bytes.now) }
-    ensures fault { IfErr result (λ e. (Err (Faults e) ≡ front_name bytes.now) × (is_memory e ≡ false)) }
+pub(crate) fn front_name(bytes: Placed<'_>) -> Result<FrontName<'_>, Error>
+    ensures reads { IfOk result
+        (λ x. Ok ((x.name.bytes.now, x.ends), x.rest.bytes.now) ≡ front_name bytes.entry.bytes.now) }
+    ensures fault { IfErr result (λ e. (Err (Faults e) ≡ front_name bytes.entry.bytes.now)
+        × (is_memory e ≡ false)) }
+    ensures places { IfOk result (λ x. x.ends ≡ true → (request : List ℕ) → StandsIn request bytes.entry
+        → NameStandsIn request x.name × StandsIn request x.rest) }
 {
-    if bytes.is_empty() {
+    if bytes.bytes.is_empty() {
         return Err(Error::MissingParameter);
     }
     match first_name(bytes) {
@@ -180,7 +208,7 @@ pub(crate) fn front_name(bytes: &[u8]) -> Result<FrontName<'_>, Error>
         None => Ok(FrontName {
             name: bytes,
             ends: false,
-            rest: &[],
+            rest: Placed { bytes: &[], at: 0 },
         }),
     }
 }

@@ -1,14 +1,15 @@
 //! Names of new nodes, with the extensions after them.
 
-ghost use Rattle.std.specs.Prelude.{◌≡◌, ◌&&◌, Ok, Err, IfOk, IfErr, false};
+ghost use Rattle.std.specs.Prelude.{◌≡◌, ℕ, ◌&&◌, List, Ok, Err, IfOk, IfErr, false};
 ghost use Rattle.server_segments.specs.Errors.{is_memory};
 ghost use Rattle.server_requests.specs.Reading.{Faults, value_of};
+ghost use Rattle.fuse_values.specs.Places.{LabelStandsIn, NameStandsIn, StandsIn};
 ghost use Rattle.fuse_values.specs.Values.{received_extra};
 ghost use Rattle.server_requests.specs.Extras.{new_name, new_link};
 
 use crate::extensions::received_extensions;
 use crate::names::front_name;
-use fuse_values::Received;
+use fuse_values::{Placed, Received};
 use fuse_wire::FsOptions;
 use server_segments::Error;
 
@@ -16,7 +17,7 @@ use server_segments::Error;
 #[derive(Clone, Copy)]
 pub struct NewName<'a> {
     /// The name, without its zero byte.
-    pub name: &'a [u8],
+    pub name: Placed<'a>,
     /// The extensions, lent.
     pub received: Received<'a>,
 }
@@ -25,9 +26,9 @@ pub struct NewName<'a> {
 #[derive(Clone, Copy)]
 pub struct LinkParts<'a> {
     /// The name, without its zero byte.
-    pub name: &'a [u8],
+    pub name: Placed<'a>,
     /// The target, without its zero byte.
-    pub link: &'a [u8],
+    pub link: Placed<'a>,
     /// The extensions, lent.
     pub received: Received<'a>,
 }
@@ -39,11 +40,14 @@ pub struct LinkParts<'a> {
 /// - `MissingExtension`: a security context is agreed, but the request has none
 /// - `InvalidCString`: the name has no zero byte
 #[tactic(auto, using(crate::proofs::ExtraLemmas::new_name_cases))]
-pub fn new_name<'a>(options: FsOptions, bytes: &'a [u8]) -> Result<NewName<'a>, Error>
+pub fn new_name<'a>(options: FsOptions, bytes: Placed<'a>) -> Result<NewName<'a>, Error>
     ensures reads { IfOk result
-        (λ x. Ok (x.name.now, received_extra x.received) ≡ value_of (new_name options.0 bytes.now)) }
-    ensures fault { IfErr result (λ e. (Err (Faults e) ≡ value_of (new_name options.0 bytes.now))
+        (λ x. Ok (x.name.bytes.now, received_extra x.received)
+        ≡ value_of (new_name options.0 bytes.entry.bytes.now)) }
+    ensures fault { IfErr result (λ e. (Err (Faults e) ≡ value_of (new_name options.0 bytes.entry.bytes.now))
         × (is_memory e ≡ false)) }
+    ensures places { IfOk result (λ x. (request : List ℕ) → StandsIn request bytes.entry
+        → NameStandsIn request x.name × LabelStandsIn request x.received.secctx) }
 {
     match front_name(bytes) {
         Ok(front) => match received_extensions(options, front.rest) {
@@ -76,12 +80,18 @@ fn both_end(first: bool, second: bool) -> bool
 /// - the errors of the extensions, as of `new_name`
 /// - `InvalidCString`: the name or the target has no zero byte
 #[tactic(auto, using(crate::proofs::ExtraLemmas::new_link_cases))]
-pub fn new_link<'a>(options: FsOptions, bytes: &'a [u8]) -> Result<LinkParts<'a>, Error>
-    ensures reads { IfOk result
-        (λ x. Ok (record { name = x.name.now; link = x.link.now; extra = received_extra x.received })
-        ≡ value_of (new_link options.0 bytes.now)) }
-    ensures fault { IfErr result (λ e. (Err (Faults e) ≡ value_of (new_link options.0 bytes.now))
+pub fn new_link<'a>(options: FsOptions, bytes: Placed<'a>) -> Result<LinkParts<'a>, Error>
+    ensures reads { IfOk result (λ x. Ok (record {
+      name = x.name.bytes.now;
+      link = x.link.bytes.now;
+      extra = received_extra x.received;
+    })
+        ≡ value_of (new_link options.0 bytes.entry.bytes.now)) }
+    ensures fault { IfErr result (λ e. (Err (Faults e) ≡ value_of (new_link options.0 bytes.entry.bytes.now))
         × (is_memory e ≡ false)) }
+    ensures places { IfOk result (λ x. (request : List ℕ) → StandsIn request bytes.entry
+        → NameStandsIn request x.name × NameStandsIn request x.link
+        × LabelStandsIn request x.received.secctx) }
 {
     match front_name(bytes) {
         Ok(front) => match front_name(front.rest) {

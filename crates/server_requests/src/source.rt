@@ -1,7 +1,8 @@
 //! The sources of requests: the bytes behind a header, and the bytes that a call borrows.
 
-ghost use Rattle.std.specs.Prelude.{◌≡◌, ◌-◌, ◌≤◌, ◌*◌, ◌&&◌, ℕ, Bool, true, false, List, [], length, Ok};
-ghost use Rattle.std.specs.Prelude.{Err, IfOk, IfErr, OnOk};
+ghost use Rattle.std.specs.Prelude.{◌≡◌, ◌+◌, ◌-◌, ◌≤◌, ◌*◌, ◌&&◌, ℕ, Bool, true, false, List, [], ◌++◌};
+ghost use Rattle.std.specs.Prelude.{length, Ok, Err, IfOk, IfErr, OnOk};
+ghost use Rattle.fuse_values.specs.Places.{StandsIn};
 ghost use Rattle.fuse_values.specs.Values.{pairs_in};
 ghost use Rattle.server_requests.specs.Reading.{Faults, many, record_parser, read_result, value_of};
 ghost use Rattle.server_requests.specs.Fronts.{counted, counted_split, flags2_of, forget_pair, is_split};
@@ -14,6 +15,7 @@ use crate::names::read_counted;
 use crate::records::read_record;
 use crate::xattrs::{has_setxattr_ext, with_no_flags};
 use fuse_in::{InRecord, InitInCompat, InitInExt, SetxattrIn, SetxattrInCompat};
+use fuse_values::Placed;
 use fuse_wire::FsOptions;
 use server_segments::{Error, Reader};
 use std::alloc::Global;
@@ -44,9 +46,11 @@ pub trait Source<'a> {
     /// - `InvalidHeaderLength`: `len` is less than 40 + `fixed`
     /// - `DecodeMessage`: the source has fewer bytes
     /// - `OutOfMemory`: only if they lie in several segments
-    fn counted(self, len: u32, fixed: u32) -> Result<&'a [u8], Error>
+    fn counted(self, len: u32, fixed: u32) -> Result<Placed<'a>, Error>
         requires { fixed ≤ 256 }
-        ensures bytes { IfOk result (λ bytes. Ok bytes.now ≡ value_of (counted len fixed (left self))) }
+        ensures bytes { IfOk result (λ p. Ok p.bytes.now ≡ value_of (counted len fixed (left self))) }
+        ensures places { IfOk result
+            (λ p. (front : List ℕ) → length front ≡ 40 + fixed → StandsIn (front ++ left self) p) }
         ensures fault { IfErr result (λ e. is_memory e ≡ false
             → Err (Faults e) ≡ value_of (counted len fixed (left self))) }
         ensures in_place { (splits && is_split (len - 40 - fixed) (segments self)) ≡ false
@@ -78,8 +82,8 @@ impl<'a> Source<'a> for Flat<'a> {
         Ok(T::get_bytes(front))
     }
 
-    #[tactic(auto, using(fuse_fs::proofs::Lengths::past_none))]
-    fn counted(self, len: u32, fixed: u32) -> Result<&'a [u8], Error> {
+    #[tactic(auto, using(fuse_fs::proofs::Lengths::past_none, crate::proofs::PlaceLemmas::taken_in))]
+    fn counted(self, len: u32, fixed: u32) -> Result<Placed<'a>, Error> {
         let bytes = self.bytes;
         let Some(count) = len.checked_sub(40 + fixed) else {
             return Err(Error::InvalidHeaderLength);
@@ -87,19 +91,25 @@ impl<'a> Source<'a> for Flat<'a> {
         if bytes.len() < count as usize {
             return Err(Error::DecodeMessage);
         }
-        let (front, _rest) = bytes.split_at(count as usize);
-        Ok(front)
+        let (bytes, _rest) = bytes.split_at(count as usize);
+        Ok(Placed {
+            bytes,
+            at: 40 + fixed,
+        })
     }
 }
 
 impl<'a> Flat<'a> {
-    /// The bytes of the next `count` pairs of BATCH_FORGET (`struct fuse_forget_one`, 16 bytes
-    /// each), or `DecodeMessage` if there are fewer.
-    #[tactic(auto, using(crate::proofs::ForgetLemmas::pairs_cut, crate::proofs::ForgetLemmas::pairs_read))]
-    pub fn pairs(self, count: u32) -> Result<&'a [u8], Error>
+    /// The bytes of the next `count` pairs of BATCH_FORGET (`struct fuse_forget_one`, 16 bytes each),
+    /// which lie behind 48 bytes, or `DecodeMessage` if there are fewer.
+    #[tactic(auto, using(crate::proofs::ForgetLemmas::pairs_cut, crate::proofs::ForgetLemmas::pairs_read, crate::proofs::PlaceLemmas::taken_in))]
+    pub fn pairs(self, count: u32) -> Result<Placed<'a>, Error>
+        requires { count ≤ 65536 }
         ensures bytes { IfOk result
-            (λ bytes. Ok (pairs_in bytes.now) ≡ value_of (many count forget_pair self.entry.bytes.now)) }
-        ensures whole { IfOk result (λ bytes. length bytes.now ≡ 16 * count) }
+            (λ p. Ok (pairs_in p.bytes.now) ≡ value_of (many count forget_pair self.entry.bytes.now)) }
+        ensures whole { IfOk result (λ p. length p.bytes.now ≡ 16 * count) }
+        ensures places { IfOk result
+            (λ p. (front : List ℕ) → length front ≡ 48 → StandsIn (front ++ self.entry.bytes.now) p) }
         ensures fault { IfErr result
             (λ e. Err (Faults e) ≡ value_of (many count forget_pair self.entry.bytes.now)) }
     {
@@ -108,8 +118,8 @@ impl<'a> Flat<'a> {
         if bytes.len() < len {
             return Err(Error::DecodeMessage);
         }
-        let (front, _rest) = bytes.split_at(len);
-        Ok(front)
+        let (bytes, _rest) = bytes.split_at(len);
+        Ok(Placed { bytes, at: 48 })
     }
 }
 
@@ -134,17 +144,23 @@ impl<'a, 'r: 'a> Source<'a> for Segments<'a, 'r> {
     }
 
     #[inline(always)]
-    fn counted(self, len: u32, fixed: u32) -> Result<&'a [u8], Error> {
+    fn counted(self, len: u32, fixed: u32) -> Result<Placed<'a>, Error> {
         let Segments {
             alloc,
             mut reader,
             held,
         } = self;
         match read_counted(alloc, len, fixed, &mut reader) {
-            Ok(CowSlice::Borrowed(bytes)) => Ok(bytes),
+            Ok(CowSlice::Borrowed(bytes)) => Ok(Placed {
+                bytes,
+                at: 40 + fixed,
+            }),
             Ok(CowSlice::Owned(bytes)) => {
                 *held = bytes;
-                Ok(&held[..])
+                Ok(Placed {
+                    bytes: &held[..],
+                    at: 40 + fixed,
+                })
             }
             Err(error) => Err(error),
         }
@@ -173,7 +189,7 @@ pub struct RecordAndBytes<'a, T> {
     /// The record, directly behind the request's header.
     pub record: T,
     /// The bytes after it.
-    pub bytes: &'a [u8],
+    pub bytes: Placed<'a>,
 }
 
 /// A record, and the bytes after it up to `len`, the length in the request's header. Errors, in this order:
@@ -186,9 +202,11 @@ pub fn record_and_bytes<'a, T: InRecord, S: Source<'a> + Drop>(
     len: u32,
 ) -> Result<RecordAndBytes<'a, T>, Error>
     ensures reads { IfOk result
-        (λ x. Ok (x.record, x.bytes.now) ≡ value_of (with_bytes T.shape T.SIZE len (S.left source))) }
+        (λ x. Ok (x.record, x.bytes.bytes.now) ≡ value_of (with_bytes T.shape T.SIZE len (S.left source))) }
     ensures fault { IfErr result (λ e. is_memory e ≡ false
         → Err (Faults e) ≡ value_of (with_bytes T.shape T.SIZE len (S.left source))) }
+    ensures places { IfOk result (λ x. (header : List ℕ) → length header ≡ 40
+        → StandsIn (header ++ S.left source) x.bytes) }
     ensures in_place { (S.splits && counted_split len T.SIZE (S.segments source)) ≡ false
         → IfErr result (λ e. is_memory e ≡ false) }
 {
@@ -211,9 +229,11 @@ pub fn setxattr_and_bytes<'a, S: Source<'a> + Drop>(
     len: u32,
 ) -> Result<RecordAndBytes<'a, SetxattrIn>, Error>
     ensures reads { IfOk result
-        (λ x. Ok (x.record, x.bytes.now) ≡ value_of (setxattr_front options.0 len (S.left source))) }
+        (λ x. Ok (x.record, x.bytes.bytes.now) ≡ value_of (setxattr_front options.0 len (S.left source))) }
     ensures fault { IfErr result (λ e. is_memory e ≡ false
         → Err (Faults e) ≡ value_of (setxattr_front options.0 len (S.left source))) }
+    ensures places { IfOk result (λ x. (header : List ℕ) → length header ≡ 40
+        → StandsIn (header ++ S.left source) x.bytes) }
     ensures in_place { (S.splits && counted_split len (setxattr_len options.0) (S.segments source)) ≡ false
         → IfErr result (λ e. is_memory e ≡ false) }
 {

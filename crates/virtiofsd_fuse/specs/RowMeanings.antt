@@ -1,8 +1,9 @@
 -- The results of reading a request by its row of the grammar.
-use Rattle.std.specs.Prelude.{◌≡◌, ◌≤◌, ◌-◌, ◌^◌, ℕ, Bool, true, false, ◌&&◌, List, [], Result, Ok, Err}
-use Rattle.std.specs.Prelude.{bit_and}
+use Rattle.std.specs.Prelude.{◌≡◌, ◌≤◌, ◌-◌, ◌^◌, ℕ, Bool, true, false, ◌&&◌, List, [], ◌++◌, length}
+use Rattle.std.specs.Prelude.{Result, Ok, Err, bit_and}
 use Rattle.fuse_in.specs.declared.session.InHeader.{InHeader}
 use Rattle.fuse_in.specs.declared.files.ReadIn.{ReadIn}
+use Rattle.fuse_values.specs.Places.{CallStandsIn}
 use Rattle.fuse_values.specs.Values.{call_of}
 use Rattle.fuse_wire.specs.declared.opcodes.Opcode.{Opcode}
 use Rattle.fuse_wire.specs.declared.opcodes.Opcode.TheVariants as op
@@ -54,6 +55,16 @@ RowReads splits takes h options row bytes reported =
     ReadsAs splits (takes (given h options room)) h reported
     (ended h.unique (row (given h options room) bytes))
 
+-- the names of a call that was read lie in the request
+abbrev pub MeaningStandsIn : (request : List ℕ) → RequestMeaning → Type 0
+MeaningStandsIn request (value.Call call) = CallStandsIn request call
+MeaningStandsIn request _ = Unit {0}
+
+-- and the request is any header (struct fuse_in_header, 40 bytes) with the bytes behind it
+abbrev pub StandsBehindHeader : (bytes : List ℕ) → RequestMeaning → Type 0
+StandsBehindHeader bytes reported =
+    (header : List ℕ) → length header ≡ 40 → MeaningStandsIn (header ++ bytes) reported
+
 -- the result of reading a READ with this meaning and room: its record, or the fault
 abbrev pub ReadIsRead : InHeader → (room : ℕ) → Result ReadIn Error → Meaning → Type 0
 ReadIsRead h room (Ok r) m = (m ≡ Asks (One h.unique (read_call h (room - 16) r))) × (16 ≤ room)
@@ -80,3 +91,9 @@ ForgetsAreRead g (forgets.Pairs count) rest m =
     (m ≡ ended g.header.unique (forgets_asked count g rest)) × (count ≤ 65536)
 ForgetsAreRead g (forgets.Error errno) rest m = m ≡ Replies (error_bytes g.header.unique errno)
 ForgetsAreRead g (forgets.Fault e) rest m = (m ≡ IsFault e) × (is_memory e ≡ false)
+
+-- the pairs of a BATCH_FORGET follow its record of 8 bytes (struct fuse_batch_forget_in)
+abbrev pub ForgetsAreBehind : ForgetsMeaning → (bytes more : List ℕ) → Type 0
+ForgetsAreBehind (forgets.Pairs count) bytes more =
+    (front : List ℕ) × (length front ≡ 8) × (front ++ more ≡ bytes)
+ForgetsAreBehind _ bytes more = Unit {0}

@@ -3,10 +3,10 @@
 
 ghost use Rattle.std.specs.Prelude.{◌≡◌, ◌||◌, true, false};
 ghost use Rattle.server_requests.specs.Fronts.{counted_split, setxattr_len};
-ghost use Rattle.virtiofsd_fuse.specs.Grammar.{given, row, header_row, record_row, name_row, record_name_row};
+ghost use Rattle.virtiofsd_fuse.specs.Grammar.{row, header_row, record_row, name_row, record_name_row};
 ghost use Rattle.virtiofsd_fuse.specs.Grammar.{two_names_row, new_name_row};
 ghost use Rattle.virtiofsd_fuse.specs.Grammar.{symlink_row, getxattr_row, listxattr_row, setxattr_row};
-ghost use Rattle.virtiofsd_fuse.specs.RowMeanings.{RowReads, is_single};
+ghost use Rattle.virtiofsd_fuse.specs.RowMeanings.{RowReads, StandsBehindHeader, is_single};
 ghost use Rattle.virtiofsd_fuse.specs.WantOfMemory.{row_owns, takes_memory};
 
 use fuse_in::{GetxattrIn, InHeader};
@@ -23,9 +23,9 @@ use server_calls::open_files::{
 use server_calls::plain_requests::{Bmap, Getlk, Ioctl, NotifyReply, Poll, Setlk, Setlkw, TmpFile};
 use server_calls::session::Destroy;
 use server_calls::values::{
-    NameValue, NewNameValue, PlainValue, RecordNameValue, RecordValue, TwoPartsValue,
+    NameValue, NewNameValue, PlainValue, RecordNameValue, RecordValue, TwoNamesValue,
 };
-use server_calls::xattrs::{Getxattr, Listxattr, Setxattr};
+use server_calls::xattrs::{Getxattr, Listxattr, setxattr_value};
 use server_replies::init::MAX_BUFFER_SIZE;
 use server_requests::names::{last_name, name_and_value, two_names};
 use server_requests::new_names::{new_link, new_name};
@@ -52,7 +52,9 @@ fn header_row<'a, R: PlainValue, S: Source<'a> + Drop>(
     options: FsOptions,
     source: S,
 ) -> RequestMeaning<'a>
-    ensures { RowReads S.splits (λ g. false) head.now options.0 (header_row R.call) (S.left source) result }
+    ensures reads { RowReads S.splits (λ g. false) head.now options.0 (header_row R.call)
+        (S.left source) result }
+    ensures places { StandsBehindHeader (S.left source) result }
 {
     RequestMeaning::Call(R::value(head))
 }
@@ -64,8 +66,9 @@ fn record_row<'a, R: RecordValue, S: Source<'a> + Drop>(
     options: FsOptions,
     source: S,
 ) -> RequestMeaning<'a>
-    ensures { RowReads S.splits (λ g. false) head.now options.0 (record_row R.Record.shape R.call)
+    ensures reads { RowReads S.splits (λ g. false) head.now options.0 (record_row R.Record.shape R.call)
         (S.left source) result }
+    ensures places { StandsBehindHeader (S.left source) result }
 {
     let mut source = source;
     match source.record() {
@@ -81,8 +84,9 @@ fn name_row<'a, R: NameValue, S: Source<'a> + Drop>(
     options: FsOptions,
     source: S,
 ) -> RequestMeaning<'a>
-    ensures { RowReads S.splits (λ g. counted_split g.header.len 0 (S.segments source)) head.now options.0
-        (name_row R.call) (S.left source) result }
+    ensures reads { RowReads S.splits (λ g. counted_split g.header.len 0 (S.segments source))
+        head.now options.0 (name_row R.call) (S.left source) result }
+    ensures places { StandsBehindHeader (S.left source) result }
 {
     match source.counted(head.len, 0) {
         Ok(bytes) => match last_name(bytes) {
@@ -100,8 +104,9 @@ fn record_name_row<'a, R: RecordNameValue, S: Source<'a> + Drop>(
     options: FsOptions,
     source: S,
 ) -> RequestMeaning<'a>
-    ensures { RowReads S.splits (λ g. counted_split g.header.len R.Record.SIZE (S.segments source))
+    ensures reads { RowReads S.splits (λ g. counted_split g.header.len R.Record.SIZE (S.segments source))
         head.now options.0 (record_name_row R.Record.shape R.Record.SIZE R.call) (S.left source) result }
+    ensures places { StandsBehindHeader (S.left source) result }
 {
     match record_and_bytes::<R::Record, S>(source, head.len) {
         Ok(front) => match last_name(front.bytes) {
@@ -114,13 +119,14 @@ fn record_name_row<'a, R: RecordNameValue, S: Source<'a> + Drop>(
 
 // A request that is one record and two names.
 #[inline(always)]
-fn two_names_row<'a, R: TwoPartsValue, S: Source<'a> + Drop>(
+fn two_names_row<'a, R: TwoNamesValue, S: Source<'a> + Drop>(
     head: &InHeader,
     options: FsOptions,
     source: S,
 ) -> RequestMeaning<'a>
-    ensures { RowReads S.splits (λ g. counted_split g.header.len R.Record.SIZE (S.segments source))
+    ensures reads { RowReads S.splits (λ g. counted_split g.header.len R.Record.SIZE (S.segments source))
         head.now options.0 (two_names_row R.Record.shape R.Record.SIZE R.call) (S.left source) result }
+    ensures places { StandsBehindHeader (S.left source) result }
 {
     match record_and_bytes::<R::Record, S>(source, head.len) {
         Ok(front) => match two_names(front.bytes) {
@@ -138,10 +144,11 @@ fn new_name_row<'a, R: NewNameValue, S: Source<'a> + Drop>(
     options: FsOptions,
     source: S,
 ) -> RequestMeaning<'a>
-    ensures { RowReads S.splits
+    ensures reads { RowReads S.splits
         (λ g. row_owns g (new_name_row R.Record.shape R.Record.SIZE R.call) (S.left source)
         || counted_split g.header.len R.Record.SIZE (S.segments source))
         head.now options.0 (new_name_row R.Record.shape R.Record.SIZE R.call) (S.left source) result }
+    ensures places { StandsBehindHeader (S.left source) result }
 {
     match record_and_bytes::<R::Record, S>(source, head.len) {
         Ok(front) => match new_name(options, front.bytes) {
@@ -162,9 +169,10 @@ fn symlink_row<'a, S: Source<'a> + Drop>(
     options: FsOptions,
     source: S,
 ) -> RequestMeaning<'a>
-    ensures { RowReads S.splits (λ g. row_owns g symlink_row (S.left source)
+    ensures reads { RowReads S.splits (λ g. row_owns g symlink_row (S.left source)
         || counted_split g.header.len 0 (S.segments source))
         head.now options.0 symlink_row (S.left source) result }
+    ensures places { StandsBehindHeader (S.left source) result }
 {
     match source.counted(head.len, 0) {
         Ok(bytes) => match new_link(options, bytes) {
@@ -185,8 +193,9 @@ fn getxattr_row<'a, S: Source<'a> + Drop>(
     options: FsOptions,
     source: S,
 ) -> RequestMeaning<'a>
-    ensures { RowReads S.splits (λ g. counted_split g.header.len 8 (S.segments source)) head.now options.0
-        (getxattr_row) (S.left source) result }
+    ensures reads { RowReads S.splits (λ g. counted_split g.header.len 8 (S.segments source))
+        head.now options.0 getxattr_row (S.left source) result }
+    ensures places { StandsBehindHeader (S.left source) result }
 {
     match record_and_bytes::<GetxattrIn, S>(source, head.len) {
         Ok(front) => {
@@ -209,7 +218,9 @@ fn listxattr_row<'a, S: Source<'a> + Drop>(
     options: FsOptions,
     source: S,
 ) -> RequestMeaning<'a>
-    ensures { RowReads S.splits (λ g. false) head.now options.0 (listxattr_row) (S.left source) result }
+    ensures reads { RowReads S.splits (λ g. false) head.now options.0 listxattr_row
+        (S.left source) result }
+    ensures places { StandsBehindHeader (S.left source) result }
 {
     let mut source = source;
     match source.record::<GetxattrIn>() {
@@ -230,13 +241,15 @@ fn setxattr_row<'a, S: Source<'a> + Drop>(
     options: FsOptions,
     source: S,
 ) -> RequestMeaning<'a>
-    ensures { RowReads S.splits (λ g. counted_split g.header.len (setxattr_len g.options) (S.segments source))
-        head.now options.0 (setxattr_row) (S.left source) result }
+    ensures reads { RowReads S.splits
+        (λ g. counted_split g.header.len (setxattr_len g.options) (S.segments source))
+        head.now options.0 setxattr_row (S.left source) result }
+    ensures places { StandsBehindHeader (S.left source) result }
 {
     match setxattr_and_bytes(source, options, head.len) {
         Ok(front) => match name_and_value(front.bytes, front.record.size) {
             Ok((name, value)) => {
-                let call = Setxattr::value(head, &front.record, name, value);
+                let call = setxattr_value(head, &front.record, name, value);
                 RequestMeaning::Call(call)
             }
             Err(error) => RequestMeaning::Fault(error),
@@ -268,8 +281,9 @@ pub fn row_meaning<'a, S: Source<'a> + Drop>(
     source: S,
 ) -> RequestMeaning<'a>
     requires { is_single opcode ≡ true }
-    ensures { RowReads S.splits (λ g. takes_memory g opcode (S.segments source) (S.left source)) head.now
-        options.0 (λ g. row g opcode) (S.left source) result }
+    ensures reads { RowReads S.splits (λ g. takes_memory g opcode (S.segments source) (S.left source))
+        head.now options.0 (λ g. row g opcode) (S.left source) result }
+    ensures places { StandsBehindHeader (S.left source) result }
 {
     by_shape!(opcode, head, options, source, {
         header_row: Readlink Statfs Getlk Setlk Setlkw Bmap Destroy Ioctl Poll NotifyReply Syncfs TmpFile;

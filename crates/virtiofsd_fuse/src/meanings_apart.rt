@@ -7,6 +7,7 @@ ghost use Rattle.fuse_in.specs.declared.session.InHeader.{InHeader};
 ghost use Rattle.virtiofsd_fuse.specs.Grammar.{Given, given, ended, read_row, listing_row, init_row};
 ghost use Rattle.virtiofsd_fuse.specs.Grammar.{batch_forget_row, started};
 ghost use Rattle.virtiofsd_fuse.specs.RowMeanings.{ReadIsRead, ListingIsRead, InitIsRead, ForgetsAreRead};
+ghost use Rattle.virtiofsd_fuse.specs.RowMeanings.{ForgetsAreBehind};
 
 use crate::forgets::MAX_FORGETS;
 use crate::session::known;
@@ -135,9 +136,10 @@ pub enum ForgetsMeaning {
 
 /// The meaning of a BATCH_FORGET by its record. Reads no byte behind the record.
 pub fn forgets_meaning<'a, S: Source<'a>>(source: &mut S) -> ForgetsMeaning
-    ensures { (h : InHeader) (options room : ℕ)
+    ensures reads { (h : InHeader) (options room : ℕ)
         → ForgetsAreRead (given h options room) result (S.left source.new)
         (ended h.unique (batch_forget_row (given h options room) (S.left source.old))) }
+    ensures places { ForgetsAreBehind result (S.left source.old) (S.left source.new) }
 {
     match source.record::<BatchForgetIn>() {
         Ok(request) => {

@@ -70,11 +70,11 @@ impl<F: FileSystem> Server<F> {
         ensures rest { Leaves false result w.old w.new self.old self.new }
     {
         performed!(self, unique, w, call, entries {
-            Lookup { node, name } received_entry lookup(F::Inode::numbered(node), name);
+            Lookup { node, name } received_entry lookup(F::Inode::numbered(node), name.bytes);
         } others {
-            Unlink { node, name } received unlink(F::Inode::numbered(node), name);
-            Rmdir { node, name } received rmdir(F::Inode::numbered(node), name);
-            Removexattr { node, name } received removexattr(F::Inode::numbered(node), name);
+            Unlink { node, name } received unlink(F::Inode::numbered(node), name.bytes);
+            Rmdir { node, name } received rmdir(F::Inode::numbered(node), name.bytes);
+            Removexattr { node, name } received removexattr(F::Inode::numbered(node), name.bytes);
         })
     }
 
@@ -95,13 +95,14 @@ impl<F: FileSystem> Server<F> {
     {
         performed!(self, unique, w, call, entries {
             Link { old_node, node, name } received_entry link(F::Inode::numbered(old_node),
-                F::Inode::numbered(node), name);
+                F::Inode::numbered(node), name.bytes);
         } others {
-            Rename { node, old, new_dir, new, flags } received rename(F::Inode::numbered(node), old,
-                F::Inode::numbered(new_dir), new, flags);
-            Setxattr { node, name, value, flags, extra } received setxattr(F::Inode::numbered(node), name,
-                value, flags, extra);
-            Getxattr { node, name, size } received_value getxattr(F::Inode::numbered(node), name, size);
+            Rename { node, old, new_dir, new, flags } received rename(F::Inode::numbered(node), old.bytes,
+                F::Inode::numbered(new_dir), new.bytes, flags);
+            Setxattr { node, name, value, flags, extra } received setxattr(F::Inode::numbered(node),
+                name.bytes, value.bytes, flags, extra);
+            Getxattr { node, name, size } received_value getxattr(F::Inode::numbered(node), name.bytes,
+                size);
         })
     }
 
@@ -123,13 +124,14 @@ impl<F: FileSystem> Server<F> {
         ensures rest { Leaves (owns_memory (call_of [] call.entry)) result w.old w.new self.old self.new }
     {
         made!(self, alloc, unique, w, call, {
-            Symlink { link, node, name } received_entry symlink(link, F::Inode::numbered(node), name);
-            Mknod { node, name, mode, rdev, umask } received_entry mknod(F::Inode::numbered(node), name, mode,
-                rdev, umask);
-            Mkdir { node, name, mode, umask } received_entry mkdir(F::Inode::numbered(node), name,
+            Symlink { link, node, name } received_entry symlink(link.bytes, F::Inode::numbered(node),
+                name.bytes);
+            Mknod { node, name, mode, rdev, umask } received_entry mknod(F::Inode::numbered(node), name.bytes,
+                mode, rdev, umask);
+            Mkdir { node, name, mode, umask } received_entry mkdir(F::Inode::numbered(node), name.bytes,
                 mode, umask);
             Create { node, name, mode, kill, flags, umask } received_file create(F::Inode::numbered(node),
-                name, mode, kill, flags, umask);
+                name.bytes, mode, kill, flags, umask);
         })
     }
 }

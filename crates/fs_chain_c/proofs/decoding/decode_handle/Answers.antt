@@ -1,6 +1,5 @@
 use Rattle.std.proofs.Common.{rules, ℕ, inl, inr, ap, ◌∙◌}
 use Rattle.fs_chain_c.specs.Decoding as asking
-use Rattle.fs_chain_c.proofs.SpanCalls.{decoded_named}
 use Rattle.fs_chain_c.proofs.decoding.decode_handle.Goals as goal
 
 pub returns-in-Ok : goal.returns-in-Ok
@@ -28,8 +27,7 @@ returns-in-Ok c =
         fields,
         c.tell-status.ensures,
         ticket,
-        decoded_named c.args.handle.now asked c.tell-status.new.handle s c.args.request.now c.in-Ok.reported fields _ _ _ asks
-            c.tell-status.ensures ticket,
+        c.in-Ok.ensures.places,
       ),
     ))
 

@@ -9,7 +9,9 @@ returns-then-bytes-SIZE-clause-fault g c =
 
 pub returns-clause-reads : goal.returns-clause-reads
 returns-clause-reads g c =
-    let whole : c.args.bytes.now ≡ c.split_at.result.0.now ++ c.split_at.result.1.now =
-    rw (c.split_at.ensures.front, c.split_at.ensures.back) (sym (take-append-drop c.SIZE-2.result c.args.bytes.now)) in
+    let front = c.split_placed.result.0.bytes.now in
+    let rest = c.split_placed.result.1.bytes.now in
+    let whole : c.args.bytes.bytes.now ≡ front ++ rest =
+    rw (c.split_placed.ensures.front, c.split_placed.ensures.back) (sym (take-append-drop c.SIZE-2.result c.args.bytes.bytes.now)) in
     read_front g.T.InRecord.shape g.T.ByteValued.fields _ g.met.T.InRecord.of_shape c.get_bytes.result _ _
-    (whole ∙ ap (λ b. b ++ c.split_at.result.1.now) c.get_bytes.ensures.bytes) c.get_bytes.ensures.fits
+    (whole ∙ ap (λ b. b ++ rest) c.get_bytes.ensures.bytes) c.get_bytes.ensures.fits

@@ -10,18 +10,18 @@ use Rattle.virtiofsd_fuse.proofs.Serve.{ask_of}
 use Rattle.virtiofsd_fuse.proofs.ReadRows.{call_read}
 use Rattle.virtiofsd_fuse.proofs.meanings.getxattr_row.Goals as goal
 
-pub returns-in-Ok-last_name : goal.returns-in-Ok-last_name
-returns-in-Ok-last_name g c = λ room.
+pub returns-in-Ok-last_name-clause-reads : goal.returns-in-Ok-last_name-clause-reads
+returns-in-Ok-last_name-clause-reads g c = λ room.
     let front = λ (x : Given). with_bytes getxattr_in 8 x.header.len in
     let parts = λ (x : Given) (r : GetxattrIn). at_most_a_mebibyte r.size >> last_name in
     call_read g.S.Source.splits _ c.args.head.now _ (getxattr_call c.args.head.now c.in-Ok.front.record _) _
     (bytes_read (given c.args.head.now c.args.options.0 room) front parts getxattr_call _ c.in-Ok.front.record _ c.in-Ok.ensures.reads
     ∙ ap (ask_of c.args.head.now.unique (getxattr_call c.args.head.now c.in-Ok.front.record))
     (sized _ last_name _ c.if-front-gt-MAX_BUFFER_SIZE.false ∙ sym c.in-Ok-last_name.ensures.ok))
-    c.value.ensures refl (refl, tt)
+    c.value.ensures.reads refl (refl, tt)
 
-pub returns-in-Err-last_name : goal.returns-in-Err-last_name
-returns-in-Err-last_name g c = λ room.
+pub returns-in-Err-last_name-clause-reads : goal.returns-in-Err-last_name-clause-reads
+returns-in-Err-last_name-clause-reads g c = λ room.
     let front = λ (x : Given). with_bytes getxattr_in 8 x.header.len in
     let parts = λ (x : Given) (r : GetxattrIn). at_most_a_mebibyte r.size >> last_name in (
       λ other. bytes_read (given c.args.head.now c.args.options.0 room) front parts getxattr_call _ c.in-Ok.front.record _
@@ -31,16 +31,16 @@ returns-in-Err-last_name g c = λ room.
       λ none. c.in-Err-last_name.ensures.err.1,
     )
 
-pub returns-in-Err : goal.returns-in-Err
-returns-in-Err g c = λ room.
+pub returns-in-Err-clause-reads : goal.returns-in-Err-clause-reads
+returns-in-Err-clause-reads g c = λ room.
     let front = λ (x : Given). with_bytes getxattr_in 8 x.header.len in
     let parts = λ (x : Given) (r : GetxattrIn). at_most_a_mebibyte r.size >> last_name in (
       λ other. bytes_fault (given c.args.head.now c.args.options.0 room) front parts getxattr_call _ _ (c.in-Err.ensures.fault other),
       λ none. c.in-Err.ensures.in_place none,
     )
 
-pub returns-then-front-gt-MAX_BUFFER_SIZE : goal.returns-then-front-gt-MAX_BUFFER_SIZE
-returns-then-front-gt-MAX_BUFFER_SIZE g c = λ room.
+pub returns-then-front-gt-MAX_BUFFER_SIZE-clause-reads : goal.returns-then-front-gt-MAX_BUFFER_SIZE-clause-reads
+returns-then-front-gt-MAX_BUFFER_SIZE-clause-reads g c = λ room.
     let front = λ (x : Given). with_bytes getxattr_in 8 x.header.len in
     let parts = λ (x : Given) (r : GetxattrIn). at_most_a_mebibyte r.size >> last_name in
     bytes_read (given c.args.head.now c.args.options.0 room) front parts getxattr_call _ c.in-Ok.front.record _ c.in-Ok.ensures.reads

@@ -1,50 +1,50 @@
 use Rattle.virtiofsd_fuse.specs.Grammar.{row}
 use Rattle.virtiofsd_fuse.proofs.meanings.row_meaning.Goals as goal
 
-pub returns-in-Readlink : goal.returns-in-Readlink
+pub returns-in-Readlink-clause-reads : goal.returns-in-Readlink-clause-reads
 unfolding row
-returns-in-Readlink g c = rw c.in-Readlink.is (λ room. c.header_row.ensures room)
+returns-in-Readlink-clause-reads g c = rw c.in-Readlink.is (λ room. c.header_row.ensures.reads room)
 
-pub returns-in-Statfs : goal.returns-in-Statfs
+pub returns-in-Statfs-clause-reads : goal.returns-in-Statfs-clause-reads
 unfolding row
-returns-in-Statfs g c = rw c.in-Statfs.is (λ room. c.header_row-in-Statfs.ensures room)
+returns-in-Statfs-clause-reads g c = rw c.in-Statfs.is (λ room. c.header_row-in-Statfs.ensures.reads room)
 
-pub returns-in-Getlk : goal.returns-in-Getlk
+pub returns-in-Getlk-clause-reads : goal.returns-in-Getlk-clause-reads
 unfolding row
-returns-in-Getlk g c = rw c.in-Getlk.is (λ room. c.header_row-in-Getlk.ensures room)
+returns-in-Getlk-clause-reads g c = rw c.in-Getlk.is (λ room. c.header_row-in-Getlk.ensures.reads room)
 
-pub returns-in-Setlk : goal.returns-in-Setlk
+pub returns-in-Setlk-clause-reads : goal.returns-in-Setlk-clause-reads
 unfolding row
-returns-in-Setlk g c = rw c.in-Setlk.is (λ room. c.header_row-in-Setlk.ensures room)
+returns-in-Setlk-clause-reads g c = rw c.in-Setlk.is (λ room. c.header_row-in-Setlk.ensures.reads room)
 
-pub returns-in-Setlkw : goal.returns-in-Setlkw
+pub returns-in-Setlkw-clause-reads : goal.returns-in-Setlkw-clause-reads
 unfolding row
-returns-in-Setlkw g c = rw c.in-Setlkw.is (λ room. c.header_row-in-Setlkw.ensures room)
+returns-in-Setlkw-clause-reads g c = rw c.in-Setlkw.is (λ room. c.header_row-in-Setlkw.ensures.reads room)
 
-pub returns-in-Bmap : goal.returns-in-Bmap
+pub returns-in-Bmap-clause-reads : goal.returns-in-Bmap-clause-reads
 unfolding row
-returns-in-Bmap g c = rw c.in-Bmap.is (λ room. c.header_row-in-Bmap.ensures room)
+returns-in-Bmap-clause-reads g c = rw c.in-Bmap.is (λ room. c.header_row-in-Bmap.ensures.reads room)
 
-pub returns-in-Destroy : goal.returns-in-Destroy
+pub returns-in-Destroy-clause-reads : goal.returns-in-Destroy-clause-reads
 unfolding row
-returns-in-Destroy g c = rw c.in-Destroy.is (λ room. c.header_row-in-Destroy.ensures room)
+returns-in-Destroy-clause-reads g c = rw c.in-Destroy.is (λ room. c.header_row-in-Destroy.ensures.reads room)
 
-pub returns-in-Ioctl : goal.returns-in-Ioctl
+pub returns-in-Ioctl-clause-reads : goal.returns-in-Ioctl-clause-reads
 unfolding row
-returns-in-Ioctl g c = rw c.in-Ioctl.is (λ room. c.header_row-in-Ioctl.ensures room)
+returns-in-Ioctl-clause-reads g c = rw c.in-Ioctl.is (λ room. c.header_row-in-Ioctl.ensures.reads room)
 
-pub returns-in-Poll : goal.returns-in-Poll
+pub returns-in-Poll-clause-reads : goal.returns-in-Poll-clause-reads
 unfolding row
-returns-in-Poll g c = rw c.in-Poll.is (λ room. c.header_row-in-Poll.ensures room)
+returns-in-Poll-clause-reads g c = rw c.in-Poll.is (λ room. c.header_row-in-Poll.ensures.reads room)
 
-pub returns-in-NotifyReply : goal.returns-in-NotifyReply
+pub returns-in-NotifyReply-clause-reads : goal.returns-in-NotifyReply-clause-reads
 unfolding row
-returns-in-NotifyReply g c = rw c.in-NotifyReply.is (λ room. c.header_row-in-NotifyReply.ensures room)
+returns-in-NotifyReply-clause-reads g c = rw c.in-NotifyReply.is (λ room. c.header_row-in-NotifyReply.ensures.reads room)
 
-pub returns-in-Syncfs : goal.returns-in-Syncfs
+pub returns-in-Syncfs-clause-reads : goal.returns-in-Syncfs-clause-reads
 unfolding row
-returns-in-Syncfs g c = rw c.in-Syncfs.is (λ room. c.header_row-in-Syncfs.ensures room)
+returns-in-Syncfs-clause-reads g c = rw c.in-Syncfs.is (λ room. c.header_row-in-Syncfs.ensures.reads room)
 
-pub returns-in-TmpFile : goal.returns-in-TmpFile
+pub returns-in-TmpFile-clause-reads : goal.returns-in-TmpFile-clause-reads
 unfolding row
-returns-in-TmpFile g c = rw c.in-TmpFile.is (λ room. c.header_row-in-TmpFile.ensures room)
+returns-in-TmpFile-clause-reads g c = rw c.in-TmpFile.is (λ room. c.header_row-in-TmpFile.ensures.reads room)

@@ -7,30 +7,30 @@ use Rattle.virtiofsd_fuse.proofs.Serve.{ask_of}
 use Rattle.virtiofsd_fuse.proofs.ReadRows.{call_read, is_made}
 use Rattle.virtiofsd_fuse.proofs.meanings.two_names_row.Goals as goal
 
-pub returns-in-Ok-two_names : goal.returns-in-Ok-two_names
-returns-in-Ok-two_names g c = λ room.
+pub returns-in-Ok-two_names-clause-reads : goal.returns-in-Ok-two_names-clause-reads
+returns-in-Ok-two_names-clause-reads g c = λ room.
     let front = λ (x : Given). with_bytes g.R.Record.InRecord.shape g.R.Record.ByteValued.SIZE x.header.len in
-    let shows = g.R.TwoPartsValue.shows c.args.head.now c.in-Ok.front.record _ in
-    call_read g.S.Source.splits _ c.args.head.now _ (g.R.TwoPartsValue.call c.args.head.now c.in-Ok.front.record _) _
-    (bytes_read (given c.args.head.now c.args.options.0 room) front (λ x r. two_names) g.R.TwoPartsValue.call _ c.in-Ok.front.record _
+    let shows = g.R.TwoNamesValue.shows c.args.head.now c.in-Ok.front.record _ in
+    call_read g.S.Source.splits _ c.args.head.now _ (g.R.TwoNamesValue.call c.args.head.now c.in-Ok.front.record _) _
+    (bytes_read (given c.args.head.now c.args.options.0 room) front (λ x r. two_names) g.R.TwoNamesValue.call _ c.in-Ok.front.record _
     c.in-Ok.ensures.reads
-    ∙ ap (ask_of c.args.head.now.unique (g.R.TwoPartsValue.call c.args.head.now c.in-Ok.front.record)) (sym c.in-Ok-two_names.ensures.ok))
-    c.value.ensures (ap is_made shows.0) shows.1
+    ∙ ap (ask_of c.args.head.now.unique (g.R.TwoNamesValue.call c.args.head.now c.in-Ok.front.record)) (sym c.in-Ok-two_names.ensures.ok))
+    c.value.ensures.reads (ap is_made shows.0) shows.1
 
-pub returns-in-Err-two_names : goal.returns-in-Err-two_names
-returns-in-Err-two_names g c = λ room.
+pub returns-in-Err-two_names-clause-reads : goal.returns-in-Err-two_names-clause-reads
+returns-in-Err-two_names-clause-reads g c = λ room.
     let front = λ (x : Given). with_bytes g.R.Record.InRecord.shape g.R.Record.ByteValued.SIZE x.header.len in (
-      λ other. bytes_read (given c.args.head.now c.args.options.0 room) front (λ x r. two_names) g.R.TwoPartsValue.call _
+      λ other. bytes_read (given c.args.head.now c.args.options.0 room) front (λ x r. two_names) g.R.TwoNamesValue.call _
           c.in-Ok.front.record _ c.in-Ok.ensures.reads
-          ∙ ap (ask_of c.args.head.now.unique (g.R.TwoPartsValue.call c.args.head.now c.in-Ok.front.record))
+          ∙ ap (ask_of c.args.head.now.unique (g.R.TwoNamesValue.call c.args.head.now c.in-Ok.front.record))
           (sym c.in-Err-two_names.ensures.err.0),
       λ none. c.in-Err-two_names.ensures.err.1,
     )
 
-pub returns-in-Err : goal.returns-in-Err
-returns-in-Err g c = λ room.
+pub returns-in-Err-clause-reads : goal.returns-in-Err-clause-reads
+returns-in-Err-clause-reads g c = λ room.
     let front = λ (x : Given). with_bytes g.R.Record.InRecord.shape g.R.Record.ByteValued.SIZE x.header.len in (
-      λ other. bytes_fault (given c.args.head.now c.args.options.0 room) front (λ x r. two_names) g.R.TwoPartsValue.call _ _
+      λ other. bytes_fault (given c.args.head.now c.args.options.0 room) front (λ x r. two_names) g.R.TwoNamesValue.call _ _
           (c.in-Err.ensures.fault other),
       λ none. c.in-Err.ensures.in_place none,
     )

@@ -1,19 +1,30 @@
-use Rattle.std.proofs.Common.{drop}
+use Rattle.std.proofs.Common.{◌++◌, ◌+◌, ◌∙◌, List, ℕ, append_assoc, ap, drop, length, subst}
+use Rattle.std.proofs.lemmas.List.{length-append}
 use Rattle.virtiofsd_fuse.specs.Serving.{setting}
+use Rattle.server_phases.specs.Asking.{DecodedStandsIn}
 use Rattle.server_phases.proofs.Reporting.{fault_reported}
 use Rattle.server_phases.proofs.session.Session.ask_batch_forget.Goals as goal
 
 pub ask_pairs-requires : goal.ask_pairs-requires
-ask_pairs-requires c = (c.in-Pairs.ensures c.args.head.now c.args.self.now.options.0 c.args.room).1
+ask_pairs-requires c = (c.in-Pairs.ensures.reads c.args.head.now c.args.self.now.options.0 c.args.room).1
 
 pub returns-in-Pairs-clause-reported : goal.returns-in-Pairs-clause-reported
-returns-in-Pairs-clause-reported c = rw (c.in-Pairs.ensures c.args.head.now c.args.self.now.options.0 c.args.room).0
+returns-in-Pairs-clause-reported c = rw (c.in-Pairs.ensures.reads c.args.head.now c.args.self.now.options.0 c.args.room).0
     (c.ask_pairs.ensures.reported (drop 40 c.args.source.bytes.now))
 
 pub returns-in-Error-clause-reported : goal.returns-in-Error-clause-reported
 returns-in-Error-clause-reported c = c.refused.ensures.reported c.args.self.now.page_size c.args.self.now.options.0 _ _
-    (c.in-Error.ensures c.args.head.now c.args.self.now.options.0 c.args.room)
+    (c.in-Error.ensures.reads c.args.head.now c.args.self.now.options.0 c.args.room)
 
 pub returns-in-Fault-clause-reported : goal.returns-in-Fault-clause-reported
 returns-in-Fault-clause-reported c = fault_reported (setting c.args.self.now.page_size c.args.self.now.options.0 c.args.room) _ _
-    (c.in-Fault.ensures c.args.head.now c.args.self.now.options.0 c.args.room).0
+    (c.in-Fault.ensures.reads c.args.head.now c.args.self.now.options.0 c.args.room).0
+
+pub returns-in-Pairs-clause-places : goal.returns-in-Pairs-clause-places
+returns-in-Pairs-clause-places c = λ header forty.
+    let more = c.forgets_meaning.new.source.bytes.now in
+    let front = c.in-Pairs.ensures.places in
+    subst (λ (l : List ℕ). DecodedStandsIn l c.ask_pairs.result)
+    (append_assoc header front.0 more ∙ ap (λ (l : List ℕ). header ++ l) front.2)
+    (c.ask_pairs.ensures.places (header ++ front.0)
+    (length-append header front.0 ∙ ap (λ (n : ℕ). n + length front.0) forty ∙ ap (λ (n : ℕ). 40 + n) front.1))
