@@ -93,4 +93,4 @@ ahead_result old new q q' ahead bytes (Err e) err ok same by page_size =
     (gives.PoppedAhead (Err e))) (sym same.1)
     (refuses page_size old new q (does.PopAhead ahead bytes) (gives.PoppedAhead (Err e))
     (same_held old new same.0)
-    (λ i k d d' u. (refl, (same_all old new same.0, refl), err)))
+    (λ i k d d' u pop. (refl, (same_all old new same.0, refl, pop), err)))

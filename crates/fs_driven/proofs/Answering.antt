@@ -23,7 +23,7 @@ use Rattle.live_machine.specs.Live.{ReceivesAnswer, after_answer}
 use Rattle.live_machine.specs.Live.{asked_chain}
 use Rattle.live_machine.specs.Live.{Happens, room_of, serving}
 use Rattle.fs_chain.specs.Answers.{CanBeGiven, IfWaits, IsGiven, IsNotTaken, IsWaiting}
-use Rattle.fs_driven.specs.Desks.{Begun, Desk, IsReady, own, with_pop, with_push}
+use Rattle.fs_driven.specs.Desks.{Begun, Desk, IsReady, own, with_pop}
 use Rattle.fs_driven.specs.Reported.{Reports, DrivesOne, Unseen, data_of, forgetting}
 use Rattle.fs_driven.specs.Reported.{turn}
 use Rattle.fs_driven.specs.Preserved.{KeepsMemory}
@@ -84,7 +84,7 @@ pub answered_all : (s : Machine) (i : Spot) (page_size k : ℕ) (q : QueueState)
     → after.queues ≡ s.queues → after.chains ≡ chains_of ob ++ asked_chain c request options calls ∷ chains_of
     oh
     → AnsweredReports i q (with_handle ws k new) push es T
-    → LeadsAt s i page_size q (with_handle ws k new) T
+    → LeadsAt s i page_size k pops q (with_handle ws k new) T
 answered_all s i page_size k q ws ob oh pops push old new c request options calls after es T all there queue
     same holds quiet done run page limit places queues chains reports =
     let c' : InFlightChain = asked_chain c request options calls in
@@ -106,8 +106,8 @@ answered_all s i page_size k q ws ob oh pops push old new c request options call
       es,
       after,
       ob ++ own k c' ∷ oh,
-      with_pop pops k (pops k),
-      with_push i.pushes i.number push,
+      pops k,
+      push,
       run,
       keeps s after i page_size q q ws ob oh k old new c c' (pops k) pops push push all there
           moves (λ n has. has) chains holds (queue, ready),
@@ -133,7 +133,7 @@ answered_by : (s : Machine) (i : Spot) (page_size k : ℕ) (q : QueueState) (ws 
     (asked_chain c request options ((call, x) ∷ [])) request options ((call, x) ∷ []) new owed
     → AnsweredReports i q (with_handle ws k new) push
     (ReceivesAnswer c call x ∷ forgetting (asked_chain c request options ((call, x) ∷ [])) owed) T
-    → LeadsAt s i page_size q (with_handle ws k new) T
+    → LeadsAt s i page_size k pops q (with_handle ws k new) T
 answered_by s i page_size k q ws ob oh pops push old new c request options call x None T all there queue same
     happens holds quiet calls forgets reports =
     let after = after_answer s (chains_of ob) (chains_of oh) c request options ((call, x) ∷ []) tt in
@@ -209,4 +209,4 @@ answer_result old new q serial a (Ok reported) given taken err same page stay st
     drives_one _ _ (answer_drives page_size old new q serial a reported taken.0 given step (stay, page))
 answer_result old new q serial a (Err e) given taken err same page stay step page_size =
     refuses page_size old new q (does.Answer serial a) (gives.Answered (Err e)) (same_held old new same)
-    (λ i k d d' u. (refl, (same_all old new same, refl), err))
+    (λ i k d d' u pop. (refl, (same_all old new same, refl, pop), err))

@@ -22,7 +22,7 @@ use Rattle.live_machine.specs.Live.{asked_chain, pop_refusal}
 use Rattle.live_machine.specs.Live.{room_of, serving}
 use Rattle.fuse_values.specs.declared.call.FileCall as made_call
 use Rattle.fs_chain.specs.Decoding.{KeepsCall, KeepsReply}
-use Rattle.fs_driven.specs.Desks.{Begun, Desk, FitsRun, IsReady, MayPop, own, with_pop, with_push}
+use Rattle.fs_driven.specs.Desks.{Begun, Desk, FitsRun, IsReady, MayPop, own, with_pop}
 use Rattle.fs_driven.specs.Reported.{DrivesOne, Reports, Unseen, exactly}
 use Rattle.fs_driven.specs.Reported.{turn}
 use Rattle.fs_driven.specs.Preserved.{IsSameHeld, KeepsMemory}
@@ -42,7 +42,7 @@ use Rattle.fs_chain.specs.declared.state.ChainState as state
 use Rattle.fs_chain.specs.declared.state.ChainState.TheVariants as at
 use Rattle.fs_chain.specs.declared.state.InFlight.{InFlight}
 use Rattle.fs_driven.proofs.Counts.{same_count}
-use Rattle.fs_driven.proofs.Spots.{DrivenAt, DrivesAt, LeadsAt, Spot, desk_after, desk_before, drives_one}
+use Rattle.fs_driven.proofs.Spots.{DrivenAt, DrivesAt, LeadsAt, Spot, desk_after, desk_before, drives_one, with_pop_same}
 use Rattle.fs_driven.proofs.Handles.{Moves, SamePlaces, has_own, idles, keeps, not_free, others_same}
 
 -- ---- a call that is refused
@@ -123,16 +123,17 @@ stays_put s i page_size k q q' p push new there event same pushing still fits =
       still = λ none. still (sym pushing ∙ none);
     }
 
--- T tells of no events, whatever the handles hold
-abbrev pub ReportsNone : Machine → Spot → QueueState → List ChainHandle → Option Begun →
+-- T tells of no events, whatever the handles hold, as long as handle k has this pop
+abbrev pub ReportsNone : Machine → Spot → QueueState → List ChainHandle → Option Begun → (k : ℕ) → Pop →
     (T : List LiveEvent → Desk → Type 0) → Type 0
-ReportsNone s i q ws push T = (os : List Owned) (pops : ℕ → Pop) → T [] (desk_after s i ws q os pops push)
+ReportsNone s i q ws push k p T =
+    (os : List Owned) (pops : ℕ → Pop) → pops k ≡ p → T [] (desk_after s i ws q os pops push)
 
 pub stays : (s : Machine) (i : Spot) (page_size k : ℕ) (q : QueueState) (ws : List ChainHandle) (os : List Owned)
     (pops : ℕ → Pop) (push : Option Begun) (old new : ChainHandle) (T : List LiveEvent → Desk → Type 0)
     → DrivenAt s i page_size k q ws os pops push → slice_get ws k ≡ Some old → IsSameHeld old new
-    → ReportsNone s i q (with_handle ws k new) push T
-    → LeadsAt s i page_size q (with_handle ws k new) T
+    → ReportsNone s i q (with_handle ws k new) push k (pops k) T
+    → LeadsAt s i page_size k pops q (with_handle ws k new) T
 stays s i page_size k q ws os pops push old new T all there same reports = by_out (is_out old.state) refl
   where
     moves : Moves s s i page_size k q q (pops k) push push new
@@ -140,7 +141,7 @@ stays s i page_size k q ws os pops push old new T all there same reports = by_ou
         stays_put s i page_size k q q (pops k) push new all.queue refl (λ head len. refl) refl all.still
         (fits_same s.places s.limit q (pops k) old new same (all.fits old there))
 
-    by_out : (b : Bool) → is_out old.state ≡ b → LeadsAt s i page_size q (with_handle ws k new) T
+    by_out : (b : Bool) → is_out old.state ≡ b → LeadsAt s i page_size k pops q (with_handle ws k new) T
     by_out true out =
         let own_one = all.outs old there out in
         let c = own_one.0 in
@@ -152,30 +153,31 @@ stays s i page_size k q ws os pops push old new T all there same reports = by_ou
           [],
           s,
           has.ob ++ own k c ∷ has.oh,
-          with_pop pops k (pops k),
-          with_push i.pushes i.number push,
+          pops k,
+          push,
           refl,
           keeps s s i page_size q q ws has.ob has.oh k old new c c (pops k) pops push push has.driven there
               moves (λ n counts. counts) has.chains holds (mine.0, ready),
-          reports (has.ob ++ own k c ∷ has.oh) (with_pop pops k (pops k)),
+          reports (has.ob ++ own k c ∷ has.oh) (with_pop pops k (pops k)) (with_pop_same pops k (pops k)),
         )
     by_out false free = (
       [],
       s,
       os,
-      with_pop pops k (pops k),
-      with_push i.pushes i.number push,
+      pops k,
+      push,
       refl,
       idles s s i page_size q q ws os k old new (pops k) pops push push all there moves (λ n counts. counts) refl free
           (ap is_out same.0 ∙ free),
-      reports os (with_pop pops k (pops k)),
+      reports os (with_pop pops k (pops k)) (with_pop_same pops k (pops k)),
     )
 
 -- a call that is refused, or not made
 pub refuses : (page_size : ℕ) (old new : ChainHandle) (q : QueueState) (command : Command)
     (returned : Returned)
     → IsSameHeld old new
-    → ((i k : ℕ) (d d' : Desk) (u : Unseen) → Reports (turn i page_size k d d' old new q q) command u returned [])
+    → ((i k : ℕ) (d d' : Desk) (u : Unseen) → d'.pops k ≡ d.pops k →
+    Reports (turn i page_size k d d' old new q q) command u returned [])
     → DrivesOne page_size old new q q command returned
 refuses page_size old new q command returned same reports = drives_one command returned at_spot
   where
@@ -184,8 +186,8 @@ refuses page_size old new q command returned same reports = drives_one command r
         stays s i page_size k q ws os pops push old new
         (λ es d. Reports (turn i.number page_size k (desk_before s i ws os pops) d old new q q) command u returned es)
         all there same
-        (λ after loads'. reports i.number k (desk_before s i ws os pops)
-        (desk_after s i (with_handle ws k new) q after loads' push) u)
+        (λ after loads' pop. reports i.number k (desk_before s i ws os pops)
+        (desk_after s i (with_handle ws k new) q after loads' push) u pop)
 
 pub same_held : (old new : ChainHandle) → new ≡ old → IsSameHeld old new
 same_held old new same = (
@@ -307,7 +309,7 @@ pub still : (s : Machine) (i : Spot) (page_size k : ℕ) (q q' : QueueState) (ws
     → IsPopOf q p
     → HoldsPop s.limit p new × (q' ≡ q)
     → T [] (desk_after s i (with_handle ws k new) q' os (with_pop pops k p) push)
-    → LeadsAt s i page_size q' (with_handle ws k new) T
+    → LeadsAt s i page_size k pops q' (with_handle ws k new) T
 still s i page_size k q q' ws os pops push old new p T all there free same event is reports =
     let was = all.fits old there in
     let may : MayPop s.limit q p new new.state =
@@ -316,8 +318,8 @@ still s i page_size k q q' ws os pops push old new p T all there free same event
       [],
       s,
       os,
-      with_pop pops k p,
-      with_push i.pushes i.number push,
+      p,
+      push,
       refl,
       idles s s i page_size q q' ws os k old new p pops push push all there
           (stays_put s i page_size k q q' p push new

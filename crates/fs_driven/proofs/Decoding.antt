@@ -22,7 +22,7 @@ use Rattle.live_machine.specs.Live.{after_decoding}
 use Rattle.live_machine.specs.Live.{asked_chain}
 use Rattle.live_machine.specs.Live.{Happens, room_of_phase, serving}
 use Rattle.fs_chain.specs.Decoding.{IfUndecoded, ReportsMeaning, wanted_after, wanted_by}
-use Rattle.fs_driven.specs.Desks.{Begun, Desk, FitsRun, In, IsReady, own, with_pop, with_push}
+use Rattle.fs_driven.specs.Desks.{Begun, Desk, FitsRun, In, IsReady, own, with_pop}
 use Rattle.fs_driven.specs.Reported.{DrivesOne, Reports, Unseen, asked_len_of, exactly}
 use Rattle.fs_driven.specs.Reported.{request_of, setting_of, turn}
 use Rattle.fs_driven.specs.Preserved.{KeepsMemory}
@@ -46,7 +46,7 @@ use Rattle.fs_driven.proofs.Handles.{Moves, has_own, held_out, keeps, others_sam
 use Rattle.fs_driven.proofs.Spots.{DrivenAt, DrivesAt, LeadsAt, Spot, desk_after, desk_before, drives_one}
 use Rattle.fs_chain.proofs.Together.{chains_of}
 use Rattle.fs_driven.proofs.Calls.{taken_out}
-use Rattle.fs_driven.proofs.Calls.{HasNoPush, ReportsNone, call_waits, done_ready, fetched_ready}
+use Rattle.fs_driven.proofs.Calls.{HasNoPush, call_waits, done_ready, fetched_ready}
 use Rattle.fs_driven.proofs.Calls.{fits_out, length_exactly, no_error, refuses, reply_no_push}
 use Rattle.fs_driven.proofs.Calls.{same_held, stays_put}
 
@@ -86,7 +86,7 @@ decoded_so : (s : Machine) (i : Spot) (page_size k : ℕ) (q : QueueState) (ws :
     × HoldsChain s.page_size (asked_chain c request options []) new
     → IsReady page_size k q push (asked_chain c request options []) new.state
     → DecodedReports s i q (with_handle ws k new) k push c request options reported T
-    → LeadsAt s i page_size q (with_handle ws k new) T
+    → LeadsAt s i page_size k pops q (with_handle ws k new) T
 decoded_so s i page_size k q ws ob oh pops push old new c request options reported T all there queue same fits proceeds
     ready reports =
     let mid : Machine = record s { options = options } in
@@ -108,8 +108,8 @@ decoded_so s i page_size k q ws ob oh pops push old new c request options report
       setting_of options s.options ++ e ∷ [],
       after,
       ob ++ own k c' ∷ oh,
-      with_pop pops k (pops k),
-      with_push i.pushes i.number push,
+      pops k,
+      push,
       joined any_files s mid after (setting_of options s.options) (e ∷ []) (sets_run s options)
           (after, proceeds.0, refl),
       keeps s after i page_size q q ws ob oh k old new c c' (pops k) pops push push all there moves (λ n has. has) refl
@@ -127,8 +127,8 @@ decodes_more : (s : Machine) (i : Spot) (page_size k : ℕ) (q : QueueState) (ws
     → FitsRun s.places s.limit q (pops k) old
     → HoldsChain s.page_size c new
     → s.chains ≡ chains_of ob ++ c ∷ chains_of oh
-    → ReportsNone s i q (with_handle ws k new) push T
-    → LeadsAt s i page_size q (with_handle ws k new) T
+    → ((os : List Owned) (pops' : ℕ → Pop) → T [] (desk_after s i (with_handle ws k new) q os pops' push))
+    → LeadsAt s i page_size k pops q (with_handle ws k new) T
 decodes_more s i page_size k q ws ob oh pops push old new c T all there queue fresh same fits holds chains
     reports =
     let moves : Moves s s i page_size k q q (pops k) push push new =
@@ -138,8 +138,8 @@ decodes_more s i page_size k q ws ob oh pops push old new c T all there queue fr
       [],
       s,
       ob ++ own k c ∷ oh,
-      with_pop pops k (pops k),
-      with_push i.pushes i.number push,
+      pops k,
+      push,
       refl,
       keeps s s i page_size q q ws ob oh k old new c c (pops k) pops push push all there moves (λ n has. has) chains holds
           (queue, fetched_ready page_size s.page_size k q push c c.phase new.state new.session fresh holds),
@@ -149,7 +149,8 @@ decodes_more s i page_size k q ws ob oh pops push old new c T all there queue fr
 -- what a decoding's result is owed, by the result
 abbrev DecodingReports : Machine → Spot → QueueState → List ChainHandle → ℕ → Option Begun → InFlightChain →
     (request : List ℕ) → (options : ℕ) → Decoded → (T : List LiveEvent → Desk → Type 0) → Type 0
-DecodingReports s i q ws k push c request options (asks.More n) T = ReportsNone s i q ws push T
+DecodingReports s i q ws k push c request options (asks.More n) T =
+    (os : List Owned) (pops : ℕ → Pop) → T [] (desk_after s i ws q os pops push)
 DecodingReports s i q ws k push c request options reported T =
     DecodedReports s i q ws k push c request options reported T
 
@@ -165,7 +166,7 @@ decoded_by : (s : Machine) (i : Spot) (page_size k : ℕ) (q : QueueState) (ws :
     → s.chains ≡ chains_of ob ++ c ∷ chains_of oh
     → ReportsMeaning st m bytes out reported new.state
     → DecodingReports s i q (with_handle ws k new) k push c request options reported T
-    → LeadsAt s i page_size q (with_handle ws k new) T
+    → LeadsAt s i page_size k pops q (with_handle ws k new) T
 decoded_by s i page_size k q ws ob oh pops push old new c request options (asks.More n) st m bytes out T all
     there queue fresh same fits holds chains means reports =
     decodes_more s i page_size k q ws ob oh pops push old new c T all there queue fresh same fits holds chains
@@ -335,9 +336,9 @@ decode_result old new q session front (Ok reported) err ok reports wanted same s
 decode_result old new q session front (Err e) err ok reports wanted same stay kept step page_size page =
     refuses page_size old new q (does.Decode session front) (gives.Decoded (Err e))
     (stay.0, stay.1, same.0.0, same.0.1, items_same old new same.1)
-    (λ i k d d' u. (
+    (λ i k d d' u pop. (
       refl,
-      ((same.0, stay.0, items_same old new same.1, part_same old new same.2, stay.1), refl),
+      ((same.0, stay.0, items_same old new same.1, part_same old new same.2, stay.1), refl, pop),
       err,
     ))
 
@@ -346,4 +347,4 @@ pub other_session : (page_size : ℕ) (old : ChainHandle) (q : QueueState) (sess
     → DrivesOne page_size old old q q (does.Decode session front) gives.OtherSession
 other_session page_size old q session front other =
     refuses page_size old old q (does.Decode session front) gives.OtherSession (same_held old old refl)
-    (λ i k d d' u. (refl, (refl, refl), other))
+    (λ i k d d' u pop. (refl, (refl, refl, pop), other))

@@ -22,7 +22,7 @@ use Rattle.live_machine.specs.Live.{InFlightChain}
 use Rattle.live_machine.specs.Live.{PushedWith, PushesChain}
 use Rattle.live_machine.specs.Live.{after_push}
 use Rattle.live_machine.specs.Live.{GivesUpChain, after_giving_up}
-use Rattle.fs_driven.specs.Desks.{Begun, FitsRun, IsReady, IsUnderWay, MayPop, own, with_push}
+use Rattle.fs_driven.specs.Desks.{Begun, FitsRun, IsReady, IsUnderWay, MayPop, own}
 use Rattle.fs_driven.specs.Desks.{no_pop, with_pop}
 use Rattle.fs_driven.specs.Reported.{DrivesOne, GiveUpReports, Reports, Unseen, asked_len_of, exactly, replied_to}
 use Rattle.fs_driven.specs.Reported.{turn}
@@ -150,8 +150,8 @@ push_drives page_size old new q q' front stores out preserved is idle ok so made
       [],
       s,
       has.ob ++ own k c ∷ has.oh,
-      with_pop pops k (pops k),
-      with_push i.pushes i.number (Some b),
+      pops k,
+      Some b,
       refl,
       keeps s s i page_size q q' ws has.ob has.oh k old new c c (pops k) pops push (Some b) has.driven there
           moves (same_count (live_of q) (live_of q') (ap live_of pushing)) has.chains p.0 (
@@ -226,8 +226,8 @@ end_drives page_size old new q q' seen notice out is free gave small ends ws k t
           (stores_after_reply (returning (live_of q)) c.head (length x.0.reply)) seen ∷ [],
       after,
       has.ob ++ has.oh,
-      with_pop pops k no_pop,
-      with_push i.pushes i.number None,
+      no_pop,
+      None,
       (after, e.0, refl),
       leaves s after i page_size q q' ws has.ob has.oh k old new c no_pop pops push None has.driven there moves
           (pushed_counts q q' gave small) refl (ap is_out state_is),
@@ -273,7 +273,7 @@ give_up_drives page_size old new q q' clear free left gives_up ws k there u s i 
     state_is : new.state ≡ at.Free
     state_is = ap (λ (w : ChainHandle). w.state) free
 
-    by_out : (b : Bool) → is_out old.state ≡ b → LeadsAt s i page_size q' (with_handle ws k new)
+    by_out : (b : Bool) → is_out old.state ≡ b → LeadsAt s i page_size k pops q' (with_handle ws k new)
         (λ es d. Reports (turn i.number page_size k (desk_before s i ws os pops) d old new q q') does.GiveUp u
         (gives.GaveUp (Ok tt)) es)
     by_out false none =
@@ -288,8 +288,8 @@ give_up_drives page_size old new q q' clear free left gives_up ws k there u s i 
           [],
           s,
           os,
-          with_pop pops k no_pop,
-          with_push i.pushes i.number push,
+          no_pop,
+          push,
           refl,
           idles s s i page_size q q' ws os k old new no_pop pops push push all there moves
               (same_count (live_of q) (live_of q') (ap live_of same)) refl none (ap is_out state_is),
@@ -326,8 +326,8 @@ give_up_drives page_size old new q q' clear free left gives_up ws k there u s i 
           GivesUpChain c ∷ [],
           after,
           has.ob ++ has.oh,
-          with_pop pops k no_pop,
-          with_push i.pushes i.number push,
+          no_pop,
+          push,
           (after, e.0, refl),
           leaves s after i page_size q q' ws has.ob has.oh k old new c no_pop pops push push has.driven there
               moves (given_up_counts q q' now) refl (ap is_out state_is),
@@ -413,8 +413,8 @@ reply_drives page_size old new q serial len out without clear kept made replies 
       RepliesOwnBytes c request reply s.options ∷ [],
       after,
       has.ob ++ own k c' ∷ has.oh,
-      with_pop pops k (pops k),
-      with_push i.pushes i.number push,
+      pops k,
+      push,
       (after, r.0, refl),
       keeps s after i page_size q q ws has.ob has.oh k old new c c' (pops k) pops push push has.driven there
           moves (λ n counts. counts) refl r.1
@@ -457,7 +457,7 @@ reply_result old new q serial len (Ok done) err clear same made step page_size =
     reply_at old new q serial len old.state refl clear made made step page_size
 reply_result old new q serial len (Err e) err clear same made step page_size =
     refuses page_size old new q (does.Reply serial len) (gives.Replied (Err e)) (same_held old new same)
-    (λ i k d d' u. (refl, (same_all old new same, refl), err))
+    (λ i k d d' u pop. (refl, (same_all old new same, refl, pop), err))
 
 pub give_up_result : (old new : ChainHandle) (q q' : QueueState) (result : Result (Unit {0}) ChainError)
     → IfErr result (λ e. give_up_error old.state q ≡ Some e)
@@ -473,7 +473,7 @@ give_up_result old new q q' (Err e) err clear same free left step page_size =
     subst (λ (r : QueueState). DrivesOne page_size old new q r does.GiveUp (gives.GaveUp (Err e)))
     (sym same.1)
     (refuses page_size old new q does.GiveUp (gives.GaveUp (Err e)) (same_held old new same.0)
-    (λ i k d d' u. (refl, (same_all old new same.0, refl), err)))
+    (λ i k d d' u pop. (refl, (same_all old new same.0, refl, pop), err)))
 
 push_at : (old new : ChainHandle) (q q' : QueueState) (front front' : List ℕ) (s : PushStores)
     (st : state.ChainState) → old.state ≡ st → HasFree st q → length front' ≡ length front
@@ -509,9 +509,9 @@ push_result old new q q' front front' (Err e) len err ok same made pushing by pu
     subst (λ (r : QueueState). DrivesOne page_size old new q r does.Push (gives.Began (Err e) front'))
     (sym same.2)
     (refuses page_size old new q does.Push (gives.Began (Err e) front') (same_held old new same.0)
-    (λ i k d d' u. (
+    (λ i k d d' u pop. (
       refl,
-      (same_all old new same.0, refl),
+      (same_all old new same.0, refl, pop),
       subst (λ (n : ℕ). push_error (has_ring old.state old.regions) old.state q n ≡ Some e) (sym len) err,
     )))
 
@@ -548,4 +548,4 @@ pushed_result old new q q' seen (Err e) err ok same free gives_it small step pag
     subst (λ (r : QueueState). DrivesOne page_size old new q r (does.Pushed seen) (gives.Ended (Err e)))
     (sym same.1)
     (refuses page_size old new q (does.Pushed seen) (gives.Ended (Err e)) (same_held old new same.0)
-    (λ i k d d' u. (refl, (same_all old new same.0, refl), err)))
+    (λ i k d d' u pop. (refl, (same_all old new same.0, refl, pop), err)))

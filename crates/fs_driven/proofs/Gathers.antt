@@ -116,7 +116,7 @@ gathered_drives : (page_size : ℕ) (old mid new : ChainHandle) (q : QueueState)
     → (ws : List ChainHandle) (k : ℕ) → slice_get ws k ≡ Some old
     → (s : Machine) (i : Spot) (os : List Owned) (pops : ℕ → Pop) (push : Option Begun)
     → DrivenAt s i page_size k q ws os pops push
-    → LeadsAt s i page_size q (with_handle ws k new)
+    → LeadsAt s i page_size k pops q (with_handle ws k new)
     (λ es d. GatherReports (turn i.number page_size k (desk_before s i ws os pops) d old new q q) serial entries names failure n reported
     (Ok len) list es)
 gathered_drives page_size old mid new q serial before list entries names failure n len reported all_in ends ws k there s i os
@@ -222,7 +222,7 @@ refused_drives : (old mid new : ChainHandle) (q : QueueState) (serial : ℕ) (be
 refused_drives old mid new q serial before list entries names failure n reported e nothing ends page_size =
     let r = nothing_reported old mid serial before list entries.now names.now failure n reported new e nothing ends in
     refuses page_size old new q (does.Gather serial entries names failure) (gives.Gathered n reported (Err e) list) r.1
-    (λ i k d d' u. (refl, r.0, r.1, refl, r.2))
+    (λ i k d d' u pop. (refl, r.0, r.1, refl, r.2))
 
 -- ---- by what the calls ensure
 

@@ -111,7 +111,7 @@ listing_drives : (page_size : ℕ) (old new : ChainHandle) (q : QueueState) (ser
     → (ws : List ChainHandle) (k : ℕ) → slice_get ws k ≡ Some old
     → (s : Machine) (i : Spot) (os : List Owned) (pops : ℕ → Pop) (push : Option Begun)
     → DrivenAt s i page_size k q ws os pops push
-    → LeadsAt s i page_size q (with_handle ws k new)
+    → LeadsAt s i page_size k pops q (with_handle ws k new)
     (λ es d. ReportsListing (turn i.number page_size k (desk_before s i ws os pops) d old new q q) serial answer P (Ok len) es)
 listing_drives page_size old new q serial answer P len was same suited listed reported ws k there s i os pops push
     all =
@@ -142,7 +142,7 @@ ended_not : (old new : ChainHandle) (q : QueueState) (serial : ℕ) (e : ChainEr
     → (page_size : ℕ) → DrivesOne page_size old new q q (does.EndListing serial) (gives.Listed (Err e))
 ended_not old new q serial e reported same page_size =
     refuses page_size old new q (does.EndListing serial) (gives.Listed (Err e)) (same_held old new same)
-    (λ i k d d' u. (refl, (same_all old new same, refl), reported))
+    (λ i k d d' u pop. (refl, (same_all old new same, refl, pop), reported))
 
 pub ended : (old new : ChainHandle) (q : QueueState) (serial : ℕ) (result : Result ℕ ChainError)
     → UnlessRefused (serial_error old.state old.serial serial) result (new ≡ old)
@@ -182,7 +182,7 @@ failed_not : (old new : ChainHandle) (q : QueueState) (serial errno : ℕ) (e : 
     → (page_size : ℕ) → DrivesOne page_size old new q q (does.FailListing serial errno) (gives.Listed (Err e))
 failed_not old new q serial errno e reported same page_size =
     refuses page_size old new q (does.FailListing serial errno) (gives.Listed (Err e)) (same_held old new same)
-    (λ i k d d' u. (refl, (same_all old new same, refl), reported))
+    (λ i k d d' u pop. (refl, (same_all old new same, refl, pop), reported))
 
 pub failed : (old new : ChainHandle) (q : QueueState) (serial errno : ℕ) (result : Result ℕ ChainError)
     → 1 ≤ errno → errno ≤ 4095

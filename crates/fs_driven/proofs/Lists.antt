@@ -1,14 +1,15 @@
 -- A call of one of the handles in a list, and calls one behind another.
 use Rattle.std.proofs.Common.{inl, inr, ◌≡◌, ◌⊎◌, ◌<◌, ◌≤◌, ◌+◌, ℕ, zero, suc, List, [], ◌∷◌, ◌++◌, Some, None, arith}
 use Rattle.std.proofs.Common.{false, get_or, zero-le}
-use Rattle.std.proofs.Common.{length, slice_get, refl}
+use Rattle.std.proofs.Common.{Option, length, slice_get, refl}
 use Rattle.std.proofs.Common.{subst, sym, ap, ◌∙◌, append-nil}
 use Rattle.std.specs.Prelude.{slice_set, take, drop}
 use Rattle.fs_chain.specs.Orders.{is_out}
 use Rattle.fs_driven.proofs.Handles.{Seen, carries_on, none_some, not_free, same_first, same_rest}
 use Rattle.fs_driven.proofs.Pops.{idle_may}
 use Rattle.vm_memory_core.specs.Host.{changed_at}
-use Rattle.fs_driven.specs.Desks.{BeginsDriven, Desk, Leads, desk, no_pop, with_queue}
+use Rattle.fs_chain.specs.Holds.{Pop}
+use Rattle.fs_driven.specs.Desks.{BeginsDriven, Begun, Desk, Leads, desk, no_pop, with_pop, with_push, with_queue}
 use Rattle.fs_driven.specs.Reported.{Called, Drives, DrivesOne, ReportsAll, Unseen, call_of, calls_of}
 use Rattle.fs_driven.specs.Reported.{IsMissing, is_of_queue, seen_of}
 use Rattle.fs_chain.specs.Together.{with_handle}
@@ -40,7 +41,9 @@ at_place on page_size ws k w new qs i q q' command returned there number queue m
     let z = single zs (call_of k command returned) is in
     let a = one ws k there on qs i number queue z.0 s os pops pushes all in
     let d : Desk = desk s ws qs os pops pushes in
-    let end : Desk = desk a.1 (with_handle ws k new) (with_queue qs i q') a.2 a.3 a.4 in
+    let pops' : ℕ → Pop = with_pop pops k a.3 in
+    let pushes' : ℕ → Option Begun = with_push pushes i a.4 in
+    let end : Desk = desk a.1 (with_handle ws k new) (with_queue qs i q') a.2 pops' pushes' in
     subst (λ (l : List ChainHandle). Leads s on page_size (slice_set qs i q') l
     (λ es e. ReportsAll on page_size d zs es e)) (sym (set_changed ws k new))
     (subst (λ (l : List QueueState). Leads s on page_size l (with_handle ws k new)
@@ -48,8 +51,8 @@ at_place on page_size ws k w new qs i q q' command returned there number queue m
       a.0,
       a.1,
       a.2,
-      a.3,
-      a.4,
+      pops',
+      pushes',
       a.5,
       a.6,
       subst (λ (l : List Seen). ReportsAll on page_size d l a.0 end) (sym z.1) (
@@ -71,6 +74,10 @@ at_place on page_size ws k w new qs i q q' command returned there number queue m
             there = queue;
             handles = refl;
             queues = refl;
+            pop = a.3;
+            pops = refl;
+            push = a.4;
+            pushes = refl;
             reports = a.7;
           },
         ),

@@ -132,15 +132,15 @@ drops : (old new : ChainHandle) (q : QueueState) → IsFreed old new → Abandon
 unfolding AbandonsChain
 drops old new q freed abandons page_size ws k there u s i os pops push all = by_out (is_out old.state) refl
   where
-    by_out : (b : Bool) → is_out old.state ≡ b → LeadsAt s i page_size q (with_handle ws k new)
+    by_out : (b : Bool) → is_out old.state ≡ b → LeadsAt s i page_size k pops q (with_handle ws k new)
         (λ es d. Reports (turn i.number page_size k (desk_before s i ws os pops) d old new q q) does.Abandon u
         gives.Abandoned es)
     by_out false none = (
       [],
       s,
       os,
-      with_pop pops k no_pop,
-      with_push i.pushes i.number push,
+      no_pop,
+      push,
       refl,
       idles s s i page_size q q ws os k old new no_pop pops push push all there
           (stays_put s i page_size k q q no_pop push new all.queue refl (λ head len. refl) refl all.still
@@ -177,8 +177,8 @@ drops old new q freed abandons page_size ws k there u s i os pops push all = by_
           Abandons c ∷ [],
           after,
           has.ob ++ lost c' ∷ has.oh,
-          with_pop pops k no_pop,
-          pushes,
+          no_pop,
+          push,
           (after, e.0, refl),
           loses s i.on page_size qs (with_handle ws k new) has.ob has.oh c' (with_pop pops k no_pop) pushes rest
               (q, there_now, fault_of_phase c.phase, refl)

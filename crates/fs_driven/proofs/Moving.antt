@@ -338,4 +338,4 @@ pub no_move_of_one : (old new : ChainHandle) (q : QueueState) → new ≡ old
     → DrivesOne page_size old new q q (does.Move alloc regions) gives.NotOfOne
 no_move_of_one old new q same page_size alloc regions =
     refuses page_size old new q (does.Move alloc regions) gives.NotOfOne (same_held old new same)
-    (λ i k d d' u. (refl, (same, refl)))
+    (λ i k d d' u pop. (refl, (same, refl, pop)))

@@ -11,7 +11,6 @@ use Rattle.fs_chain.specs.declared.error.ChainError.{ChainError}
 use Rattle.fs_chain.specs.Events.{event_fault, event_miss}
 use Rattle.std.specs.Prelude.{◌+◌, ◌<◌}
 use Rattle.std.proofs.Common.{arith}
-use Rattle.std.proofs.lemmas.Bool.{eq-eqb}
 use Rattle.vm_iotlb.specs.declared.iova.IovaRange.{IovaRange}
 use Rattle.vm_iotlb.specs.declared.permissions.Permissions.{Permissions}
 use Rattle.fs_queue.specs.declared.fault.QueueError.{QueueError}
@@ -50,7 +49,7 @@ use Rattle.live_machine.specs.Live.{EndsPopIn, InFlightChain, LiveEvent}
 use Rattle.live_machine.specs.Live.{Phase}
 use Rattle.live_machine.specs.Live.{PushedWith}
 use Rattle.live_machine.specs.Live.{Happens}
-use Rattle.fs_driven.specs.Desks.{Begun, Desk, FitsRun, IsReady, MayPop, no_pop, own, with_pop, with_push}
+use Rattle.fs_driven.specs.Desks.{Begun, Desk, FitsRun, IsReady, MayPop, no_pop, own, with_pop}
 use Rattle.fs_driven.specs.Reported.{DrivesOne, IsLoadedBy, PopReports, Reports, Turn, turn}
 use Rattle.fs_driven.specs.Preserved.{KeepsMemory}
 use Rattle.fs_chain.specs.Holds.{IsHeldIn, IsQueue}
@@ -68,7 +67,7 @@ use Rattle.fs_driven.proofs.Counts.{refused_counts, same_count, took_counts}
 use Rattle.fs_driven.proofs.Handles.{Moves, SamePlaces, held_out, idles, joins, others_same}
 use Rattle.fs_driven.proofs.Calls.{HasNoPush, fetched_ready, fits_out, refuses, stays_put}
 use Rattle.fs_driven.proofs.Calls.{still}
-use Rattle.fs_driven.proofs.Spots.{DrivenAt, DrivesAt, LeadsAt, Spot, desk_after, desk_before, drives_one}
+use Rattle.fs_driven.proofs.Spots.{DrivenAt, DrivesAt, LeadsAt, Spot, desk_after, desk_before, drives_one, with_pop_same}
 
 pub idle_may : (limit : ℕ) (q : QueueState) (p : Pop) (w : ChainHandle) → w.state ≡ at.Free →
     MayPop limit q p w w.state
@@ -147,15 +146,15 @@ ended : (s : Machine) (i : Spot) (page_size k : ℕ) (q q' : QueueState) (ws : L
     → IsQueue (after_pop s i.number (live_of q) loaded new.descriptors.items came) i.number q'
     → HasPopped s i.number (live_of q) loaded came new
     → PoppedReports i q' (with_handle ws k new) push (EndsPop i.number loaded new.descriptors.items came ∷ []) T
-    → LeadsAt s i page_size q' (with_handle ws k new) T
+    → LeadsAt s i page_size k pops q' (with_handle ws k new) T
 ended s i page_size k q q' ws os pops push old new loaded step.Idle T all there free same happens queue has
     reports =
     let now : live_of q' ≡ live_of q = sym (same_some (live_of q) (live_of q') (sym all.queue ∙ queue)) in (
       EndsPop i.number loaded new.descriptors.items step.Idle ∷ [],
       s,
       os,
-      with_pop pops k no_pop,
-      with_push i.pushes i.number push,
+      no_pop,
+      push,
       (s, happens, refl),
       idles s s i page_size q q' ws os k old new no_pop pops push push all there
           (stays_put s i page_size k q q' no_pop push new queue
@@ -186,8 +185,8 @@ ended s i page_size k q q' ws os pops push old new loaded (step.Refused e) T all
       EndsPop i.number loaded new.descriptors.items (step.Refused e) ∷ [],
       after,
       os,
-      with_pop pops k no_pop,
-      with_push i.pushes i.number push,
+      no_pop,
+      push,
       (after, happens, refl),
       idles s after i page_size q q' ws os k old new no_pop pops push push all there moves
           (λ n counts. same_count v (live_of q') now n (refused_counts (live_of q) e n counts)) refl free (ap is_out has),
@@ -217,8 +216,8 @@ ended s i page_size k q q' ws os pops push old new loaded (step.Chain head fault
       EndsPop i.number loaded new.descriptors.items (step.Chain head fault) ∷ [],
       after,
       os ++ own k c ∷ [],
-      with_pop pops k no_pop,
-      with_push i.pushes i.number push,
+      no_pop,
+      push,
       (after, happens, refl),
       joins s after i page_size q q' ws os k old new c no_pop pops push push all there moves
           (λ n counts. same_count v (live_of q') now (suc n) (took_counts (live_of q) room n counts)) refl free has
@@ -234,7 +233,7 @@ refused : (s : Machine) (i : Spot) (page_size k : ℕ) (q q' : QueueState) (ws :
     Popping old new q q'
     → (r : RefusedBy s i.number q q' new reported)
     → PoppedReports i q' (with_handle ws k new) push (RefusesPop i.number r.error ∷ []) T
-    → LeadsAt s i page_size q' (with_handle ws k new) T
+    → LeadsAt s i page_size k pops q' (with_handle ws k new) T
 refused s i page_size k q q' ws os pops push old new reported T all there free same r reports =
     let h = r.happens in
     let v : LiveQueue = record (h.w) { queue = after_refusal h.w.queue r.error } in
@@ -260,8 +259,8 @@ refused s i page_size k q q' ws os pops push old new reported T all there free s
       RefusesPop i.number r.error ∷ [],
       after,
       os,
-      with_pop pops k no_pop,
-      with_push i.pushes i.number push,
+      no_pop,
+      push,
       (r.after, h, sym h.state),
       idles s after i page_size q q' ws os k old new no_pop pops push push all there moves
           (λ n counts. same_count v (live_of q') now n (refused_counts h.w r.error n
@@ -303,7 +302,7 @@ ends_or_refused : (s : Machine) (i : Spot) (page_size k : ℕ) (q q' : QueueStat
     Popping old new q q'
     → GivesPop i page_size k (desk_before s i ws os pops) q q' push old new loaded reported T
     → EndsBy s i.number q q' loaded new reported ⊎ RefusedBy s i.number q q' new reported
-    → LeadsAt s i page_size q' (with_handle ws k new) T
+    → LeadsAt s i page_size k pops q' (with_handle ws k new) T
 ends_or_refused s i page_size k q q' ws os pops push old new loaded reported T all there free same give (inl e) =
     ended s i page_size k q q' ws os pops push old new loaded e.came T all there free same e.happens e.queue
     e.has
@@ -319,9 +318,6 @@ ends_or_refused s i page_size k q q' ws os pops push old new loaded reported T a
     (desk_after after i (with_handle ws k new) q' os' loads' push) old new q q') loaded x (RefusesPop i.number r.error ∷ []))
     (sym r.reported_is) (inr refl)))
 
-with_pop_same : (pops : ℕ → Pop) (k : ℕ) (p : Pop) → with_pop pops k p k ≡ p
-with_pop_same pops k p = ap (λ (b : Bool). if b then p else pops k) (eq-eqb k k refl)
-
 pub popped : (s : Machine) (i : Spot) (page_size k : ℕ) (q q' : QueueState) (ws : List ChainHandle) (os : List Owned)
     (pops : ℕ → Pop) (push : Option Begun) (old new : ChainHandle) (p : Pop) (reported : walked.PopOutcome)
     (T : List LiveEvent → Desk → Type 0)
@@ -330,7 +326,7 @@ pub popped : (s : Machine) (i : Spot) (page_size k : ℕ) (q q' : QueueState) (w
     → IsPopOf q p
     → GivesPop i page_size k (desk_before s i ws os pops) q q' push old new p.loaded reported T
     → PopIs s i.number q q' p new reported
-    → LeadsAt s i page_size q' (with_handle ws k new) T
+    → LeadsAt s i page_size k pops q' (with_handle ws k new) T
 popped s i page_size k q q' ws os pops push old new p (shows.Load n) T all there free same event give is =
     still s i page_size k q q' ws os pops push old new p T all there free same.memory event is
     (give s os (with_pop pops k p) [] (refl, ap (λ (x : Pop). x.loaded) (with_pop_same pops k p)))
@@ -340,8 +336,8 @@ popped s i page_size k q q' ws os pops push old new p (shows.Missing range acces
       [],
       s,
       os,
-      with_pop pops k no_pop,
-      with_push i.pushes i.number push,
+      no_pop,
+      push,
       refl,
       idles s s i page_size q q' ws os k old new no_pop pops push push all there
           (stays_put s i page_size k q q' no_pop push new
@@ -400,7 +396,7 @@ continues page_size old new q q' bytes outcomes.Part course pop_id walk is proce
     (gives.Popped (Ok outcomes.Part)) es)
     all there (ap is_out is) same.memory may.1
     (go s i.number (pops k) may.0 all.queue was.0 may.1 all.small)
-    (refl, proceeds)
+    (refl, with_pop_same pops k (pops k), proceeds)
 continues page_size old new q q' bytes (outcomes.On reported) course pop_id walk is proceeds go same ws k there u s i os
     pops push all =
     let was = all.fits old there in
@@ -549,4 +545,4 @@ pop_result old new q q' bytes (Err e) proceeds err same step page_size =
     (sym same.1)
     (refuses page_size old new q (does.Pop bytes) (gives.Popped (Err e))
     (same.0.1, same.0.4, same.0.0.0, same.0.0.1, same.0.2)
-    (λ i k d d' u. (refl, (same.0, refl), err)))
+    (λ i k d d' u pop. (refl, (same.0, refl, pop), err)))

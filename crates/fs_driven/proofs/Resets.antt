@@ -272,7 +272,7 @@ reset_done on ws i q q' layout position may is resets page_size k qs there =
       with_push pushes i None,
       (after_reset s i (live_of r), e.0, refl),
       resets_driven on ws i q layout position page_size qs s os pops pushes may there e.1 all,
-      (q, there, (refl, may, refl, refl, refl)),
+      (q, there, (refl, may, refl, refl, refl, refl, refl)),
     )))
 
 -- so it is in the list of the queues
@@ -317,7 +317,7 @@ pub no_reset_of_one : (old new : ChainHandle) (q : QueueState) → new ≡ old
     → DrivesOne page_size old new q q (does.Reset i layout position) gives.NotOfOne
 no_reset_of_one old new q same page_size i layout position =
     refuses page_size old new q (does.Reset i layout position) gives.NotOfOne (same_held old new same)
-    (λ n k d d' u. (refl, (same, refl)))
+    (λ n k d d' u pop. (refl, (same, refl, pop)))
 
 -- ---- a store before a sleep
 
@@ -363,4 +363,4 @@ pub no_store_of_one : (old new : ChainHandle) (q : QueueState) → new ≡ old
     → DrivesOne page_size old new q q (does.Notify i wanted) gives.NotOfOne
 no_store_of_one old new q same page_size i wanted =
     refuses page_size old new q (does.Notify i wanted) gives.NotOfOne (same_held old new same)
-    (λ n k d d' u. (refl, (same, refl)))
+    (λ n k d d' u pop. (refl, (same, refl, pop)))

@@ -9,7 +9,7 @@ use Rattle.fs_chain.specs.Orders.{is_out}
 use Rattle.fs_chain.specs.Together.{Owned, Together, with_handle}
 use Rattle.fs_chain.specs.declared.chain_handle.ChainHandle.{ChainHandle}
 use Rattle.fs_chain.specs.declared.queue.QueueState.{QueueState}
-use Rattle.fs_driven.specs.Desks.{Begun, Desk, Driven, FitsRun, In, IsReady, Leads, desk, own, with_push, with_queue}
+use Rattle.fs_driven.specs.Desks.{Begun, Desk, Driven, FitsRun, In, IsReady, LeadsBy, desk, own, with_pop, with_push, with_queue}
 use Rattle.fs_driven.specs.Reported.{DrivesOne, Reports, Unseen, turn}
 use Rattle.fs_driven.specs.declared.commands.Command.{Command}
 use Rattle.fs_driven.specs.declared.commands.Returned.{Returned}
@@ -75,9 +75,10 @@ driven_at s i page_size k q ws os pops number there whole = record {
   still = whole.still i.number q there;
 }
 
-abbrev pub LeadsAt : Machine → Spot → (page_size : ℕ) → QueueState → List ChainHandle →
+abbrev pub LeadsAt : Machine → Spot → (page_size k : ℕ) → (ℕ → Pop) → QueueState → List ChainHandle →
     (T : List LiveEvent → Desk → Type 0) → Type 0
-LeadsAt s i page_size q ws T = Leads s i.on page_size (with_queue i.queues i.number q) ws T
+LeadsAt s i page_size k pops q ws T =
+    LeadsBy s i.on page_size (with_queue i.queues i.number q) ws k pops i.number i.pushes T
 
 -- a call of a handle of this queue is a step of the run
 abbrev pub DrivesAt : (page_size : ℕ) → (w new : ChainHandle) → (q q' : QueueState) → Command → Returned →
@@ -86,7 +87,7 @@ DrivesAt page_size w new q q' command returned =
     (ws : List ChainHandle) (k : ℕ) → slice_get ws k ≡ Some w →
     (u : Unseen) (s : Machine) (i : Spot) (os : List Owned) (pops : ℕ → Pop) (push : Option Begun) →
     DrivenAt s i page_size k q ws os pops push →
-    LeadsAt s i page_size q' (with_handle ws k new)
+    LeadsAt s i page_size k pops q' (with_handle ws k new)
     (λ es d. Reports (turn i.number page_size k (desk_before s i ws os pops) d w new q q') command u returned es)
 
 pub drives_one : {page_size : ℕ} {w new : ChainHandle} {q q' : QueueState} (command : Command)
@@ -96,6 +97,9 @@ unfolding DrivesOne
 drives_one {page_size} {w} {new} {q} {q'} command returned drives ws k there on qs i number is u s os pops pushes all =
     let spot : Spot = record { number = i; on = on; queues = qs; pushes = pushes } in
     drives ws k there u s spot os pops (pushes i) (driven_at s spot page_size k q ws os pops number is all)
+
+pub with_pop_same : (pops : ℕ → Pop) (k : ℕ) (p : Pop) → with_pop pops k p k ≡ p
+with_pop_same pops k p = ap (λ (b : Bool). if b then p else pops k) (eq-eqb k k refl)
 
 -- the pushes under way, once one of them is another
 pub push_here : (pushes : ℕ → Option Begun) (i : ℕ) (push : Option Begun) → with_push pushes i push i ≡ push

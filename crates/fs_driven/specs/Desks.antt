@@ -162,6 +162,21 @@ Leads s on page_size qs ws T =
     × Driven after on page_size qs ws os pops pushes
     × T es (desk after ws qs os pops pushes)
 
+-- the same of a call of handle k and queue i: each other handle's pop, and each other queue's push under way,
+-- is as it was
+abbrev pub LeadsBy : Machine → (on : List ℕ) → (page_size : ℕ) → List QueueState → List ChainHandle →
+    (k : ℕ) → (pops : ℕ → Pop) → (i : ℕ) → (pushes : ℕ → Option Begun) →
+    (T : List LiveEvent → Desk → Type 0) → Type 0
+LeadsBy s on page_size qs ws k pops i pushes T =
+    (es : List LiveEvent)
+    × (after : Machine)
+    × (os : List Owned)
+    × (pop : Pop)
+    × (push : Option Begun)
+    × LiveRun any_files s es after
+    × Driven after on page_size qs ws os (with_pop pops k pop) (with_push pushes i push)
+    × T es (desk after ws qs os (with_pop pops k pop) (with_push pushes i push))
+
 -- these events lead from one desk to another, where the handles hold the run's chains
 abbrev pub LeadsTo : (on : List ℕ) → (page_size : ℕ) → (d d' : Desk) → List LiveEvent → Type 0
 LeadsTo on page_size d d' es =

@@ -28,7 +28,8 @@ use Rattle.fs_chain.specs.Ahead.{PopsAhead, ahead_error}
 use Rattle.fs_chain.specs.AheadSteps.{AddsAhead}
 use Rattle.fs_chain.specs.Answers.{IfWaits, IsGiven, IsNotTaken}
 use Rattle.fs_chain.specs.Decoding.{IfUndecoded, ReportsMeaning, wanted_after, wanted_by}
-use Rattle.fs_driven.specs.Desks.{Begun, Desk, Driven, In, Leads, LeadsTo, desk, lost, own, with_queue}
+use Rattle.fs_driven.specs.Desks.{Begun, Desk, Driven, In, Leads, LeadsBy, LeadsTo, desk, lost, own, with_pop}
+use Rattle.fs_driven.specs.Desks.{with_push, with_queue}
 use Rattle.fs_chain.specs.Holds.{Machine, Pop, calls_decoded, live_of, served_so}
 use Rattle.fs_chain.specs.Listings.{EndsByEntries, EndsByError}
 use Rattle.fs_chain.specs.Loads.{IsSame, ProceedsSo, RefusesWalk, whole}
@@ -137,13 +138,17 @@ turn i page_size k d d' w w' q q' =
       after = q';
     }
 
+-- the handle's pop has the loads that it had
+abbrev pub KeepsPop : Turn → Type 0
+KeepsPop t = t.new.pops t.handle ≡ t.old.pops t.handle
+
 -- a refused call changes neither its handle nor the queue
 abbrev pub ChangesNothing : Turn → Type 0
-ChangesNothing t = IsSame t.was t.now × (t.after ≡ t.before)
+ChangesNothing t = IsSame t.was t.now × (t.after ≡ t.before) × KeepsPop t
 
 -- nor does a call that isn't made
 abbrev pub IsNotMade : Turn → Type 0
-IsNotMade t = (t.now ≡ t.was) × (t.after ≡ t.before)
+IsNotMade t = (t.now ≡ t.was) × (t.after ≡ t.before) × KeepsPop t
 
 -- of the handle only the chain's state and the session change, and the queue stays
 abbrev pub ChangesSession : Turn → Type 0
@@ -181,7 +186,7 @@ abbrev pub ReportsPop : Turn → (bytes : List ℕ) → Result outcome.LoadOutco
     → Type 0
 ReportsPop t bytes (Err e) es = (es ≡ []) × ChangesNothing t × RefusesWalk t.was t.before bytes e
 ReportsPop t bytes (Ok outcomes.Part) es =
-    (es ≡ []) × ProceedsSo t.was t.before bytes outcomes.Part t.now t.after
+    (es ≡ []) × KeepsPop t × ProceedsSo t.was t.before bytes outcomes.Part t.now t.after
 ReportsPop t bytes (Ok (outcomes.On reported)) es =
     ProceedsSo t.was t.before bytes (outcomes.On reported) t.now t.after
     × (loaded : Loaded)
@@ -430,7 +435,7 @@ DrivesOne page_size w new q q' command returned =
     (on : List ℕ) (qs : List QueueState) (i : ℕ) → slice_get on k ≡ Some i → slice_get qs i ≡ Some q →
     (u : Unseen) (s : Machine) (os : List Owned) (pops : ℕ → Pop) (pushes : ℕ → Option Begun) →
     Driven s on page_size qs ws os pops pushes →
-    Leads s on page_size (with_queue qs i q') (with_handle ws k new)
+    LeadsBy s on page_size (with_queue qs i q') (with_handle ws k new) k pops i pushes
     (λ es d. Reports (turn i page_size k (desk s ws qs os pops pushes) d w new q q') command u returned es)
 
 -- no handle of queue i has a chain in flight
@@ -458,6 +463,8 @@ ResetReports on i q d d' layout position true es =
     × (d'.queues ≡ with_queue d.queues i (reset_to q layout position))
     × (d'.handles ≡ d.handles)
     × (d'.owned ≡ of_others i d.owned)
+    × (d'.pops ≡ d.pops)
+    × (d'.pushes ≡ with_push d.pushes i None)
 ResetReports on i q d d' layout position false es =
     (es ≡ []) × (d' ≡ d) × (MayReset on i d.handles q layout → ⊥)
 
@@ -502,7 +509,7 @@ IsMissing on d k =
     ⊎ (slice_get on k ≡ None)
     ⊎ ((i : ℕ) × (slice_get on k ≡ Some i) × (slice_get d.queues i ≡ None))
 
--- the call is one of handle k and its queue
+-- the call is one of handle k and its queue. Of the pops and of the pushes under way only theirs may change
 pub record IsCallOf (on : List ℕ) (page_size : ℕ) (d d' : Desk) (k : ℕ) (command : Command) (u : Unseen)
     (returned : Returned) (es : List LiveEvent) : Type 0 where
   pub queue : ℕ
@@ -515,6 +522,10 @@ pub record IsCallOf (on : List ℕ) (page_size : ℕ) (d d' : Desk) (k : ℕ) (c
   pub there : slice_get d.queues queue ≡ Some before
   pub handles : d'.handles ≡ with_handle d.handles k now
   pub queues : d'.queues ≡ with_queue d.queues queue after
+  pub pop : Pop
+  pub pops : d'.pops ≡ with_pop d.pops k pop
+  pub push : Option Begun
+  pub pushes : d'.pushes ≡ with_push d.pushes queue push
   pub reports : Reports (turn queue page_size k d d' was now before after) command u returned es
 
 -- the events of a call of one of the handles, of none if there is no such handle, or of a queue
