@@ -120,6 +120,10 @@ brings_on old new serial list list' e name reported one =
     ap (λ (n : ℕ). serial_error old.state n serial) one.stays.0.2 in
     ((on.1, on.2 ∙ same ∙ was), on.0)
 
+-- what stays in two calls
+pub stays_then : (old mid new : ChainHandle) → IsAllButPlace old mid → IsAllButPlace mid new → IsAllButPlace old new
+stays_then old mid new a b = ((b.0.0 ∙ a.0.0, b.0.1 ∙ a.0.1, b.0.2 ∙ a.0.2), b.1 ∙ a.1, b.2 ∙ a.2, b.3 ∙ a.3)
+
 -- ---- none
 
 brought_none : (w : ChainHandle) (serial : ℕ) (list names : List ℕ) →
@@ -129,7 +133,7 @@ brought_none w serial list names = record {
   step = λ page_size c es held numbers.
       subst (λ (l : List Brought). CameTo page_size c l [] list (Ok added.In) w) (sym (append-nil es))
       (held, numbers, refl);
-  preserved = (refl, refl);
+  stays = ((refl, refl, refl), refl, refl, refl);
   moved = inr (refl, refl, refl);
 }
 
@@ -180,7 +184,7 @@ one_more old mid new serial list middle list' e entries names n reported one mor
           (take n (all_brought entries others)) list' reported new
           (more.step page_size c (es ++ first ∷ []) (one.step page_size c es [] held)
           (all_both HasNumber es (first ∷ []) numbers (one.number, tt)));
-      preserved = (more.preserved.0 ∙ one.stays.0.0, more.preserved.1 ∙ one.stays.0.1);
+      stays = stays_then old mid new one.stays more.stays;
       moved = inl (by_moved more.moved, on.1, not_first n reported);
     }
   where
@@ -252,7 +256,7 @@ by_left old new serial list list' e entries names why isnt one =
           not_more page_size c es (all_brought (e ∷ entries) names) list' (Ok why) new
           (left_out old new serial list list' e (take e.name_len names) (all_brought entries (drop e.name_len names))
           why isnt one page_size c es held numbers);
-      preserved = (one.stays.0.0, one.stays.0.1);
+      stays = one.stays;
       moved = inl (on.0, on.1, refl);
     }
 
@@ -314,7 +318,7 @@ by_error old new serial list list' e entries names x one =
       step = λ page_size c es held numbers.
           not_more page_size c es (all_brought (e ∷ entries) names) list' (Err x) new
           (held_still page_size c es list list' old new held_same same.1 held, numbers);
-      preserved = (one.stays.0.0, one.stays.0.1);
+      stays = one.stays;
       moved = inr (refl, held_same, one.stays.0.2, same.1, one.so);
     }
 

@@ -24,7 +24,9 @@ use Rattle.fs_chain.specs.declared.state.ChainState.TheVariants as at
 use Rattle.fs_driven.specs.Adding.{BringsAll, BringsNothing, BringsSo, CameTo, EndsSo, EndsUnless, IsGathering}
 use Rattle.fs_driven.specs.Desks.{Begun}
 use Rattle.fs_driven.specs.Entries.{IsOfLast, all_brought, answers_of, ending_of, errno_after, refused_by}
-use Rattle.fs_driven.specs.Preserved.{IsSameHeld, KeepsMemory}
+use Rattle.fs_driven.specs.Preserved.{IsSameHeld}
+use Rattle.fs_chain.specs.Walks.{IsAllButPlace}
+use Rattle.fs_driven.proofs.Bringing.{stays_then}
 use Rattle.fs_driven.specs.Reported.{DrivesOne, GatherReports, RefusesEntries, turn}
 use Rattle.fs_driven.specs.declared.commands.Command.TheVariants as does
 use Rattle.fs_driven.specs.declared.commands.Returned.TheVariants as gives
@@ -82,10 +84,10 @@ same_when_refused : (errno : Option ℕ) (old new : ChainHandle) (serial : ℕ) 
 same_when_refused None old new serial e ends = ends.1
 same_when_refused (Some errno) old new serial e ends = ends.1
 
-preserved_to_end : (errno : Option ℕ) (old new : ChainHandle) (serial : ℕ) (reported : Result ℕ ChainError)
-    → EndsSo errno old new serial reported → KeepsMemory old new
-preserved_to_end None old new serial reported ends = (ends.2.0.0, ends.2.0.1)
-preserved_to_end (Some errno) old new serial reported ends = (ends.2.0.0, ends.2.0.1)
+stays_to_end : (errno : Option ℕ) (old new : ChainHandle) (serial : ℕ) (reported : Result ℕ ChainError)
+    → EndsSo errno old new serial reported → IsAllButPlace old new
+stays_to_end None old new serial reported ends = ends.2
+stays_to_end (Some errno) old new serial reported ends = ends.2
 
 was_before : (old mid : ChainHandle) (serial : ℕ) (list list' : List ℕ) (entries : List ListedEntry) (names : List ℕ) (n : ℕ)
     (reported : Result Added ChainError)
@@ -137,17 +139,20 @@ gathered_drives page_size old mid new q serial before list entries names failure
     let calls = listing_calls (readdir_call h.asked) h.asked.with_nodes (take n (all_brought entries names))
     (ending_of reported left failure) in
     let after : Machine = record s { chains = r.run.0; options = r.run.1; files = tt } in
-    let preserved = preserved_to_end (errno_after reported failure) mid new serial (Ok len) ends in
+    let stays = stays_then old mid new all_in.stays
+    (stays_to_end (errno_after reported failure) mid new serial (Ok len) ends) in
     answered_all s i page_size k q ws has.ob has.oh pops push old new c h.request h.options calls after
     (answers_of c h.request h.options [] calls)
     (λ es d. GatherReports (turn i.number page_size k (desk_before s i ws os pops) d old new q q) serial entries names failure n reported
     (Ok len) list es)
-    has.driven there mine.0 (preserved.0 ∙ all_in.preserved.0, preserved.1 ∙ all_in.preserved.1) r.listed.holds
+    has.driven there mine.0 (stays.0.0, stays.0.1) r.listed.holds
     (no_push new.state h.out r.listed.preserved r.listed.state) r.listed.none_pending
     r.run.2 refl refl refl refl r.run.3
     (λ after' os' pops'. (
       all_in.few,
       of_last s.page_size c (take n (all_brought entries names)) left list reported mid came,
+      stays,
+      refl,
       c,
       h.request,
       h.options,

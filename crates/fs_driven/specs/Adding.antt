@@ -14,7 +14,7 @@ use Rattle.fs_chain.specs.declared.error.ChainError.{ChainError}
 use Rattle.fs_chain.specs.declared.listing.Added.{Added}
 use Rattle.fs_chain.specs.declared.listing.Added.TheVariants as added
 use Rattle.fs_driven.specs.Entries.{added_as, all_brought, brought_of, refused_by}
-use Rattle.fs_driven.specs.Preserved.{IsSameHeld, KeepsMemory}
+use Rattle.fs_driven.specs.Preserved.{IsSameHeld}
 use Rattle.fs_driven.specs.declared.entries.ListedEntry.{ListedEntry}
 
 -- an entry is refused before or after it was looked at
@@ -76,7 +76,7 @@ pub record BringsAll (old new : ChainHandle) (serial : ℕ) (list list' : List �
       AllByRecursion HasNumber es →
       CameTo page_size c (es ++ take n (all_brought entries names)) (drop n (all_brought entries names)) list'
       reported new
-  pub preserved : KeepsMemory old new
+  pub stays : IsAllButPlace old new
   pub moved : (IsGathering new serial × (is_listing old.state ≡ true) × (refused_by n reported ≡ None))
       ⊎ BringsNothing old new serial list list' entries names n reported
 

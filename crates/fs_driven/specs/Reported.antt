@@ -320,6 +320,8 @@ GatherReports t serial entries names failure added last (Ok len) list es =
     let left = drop added (all_brought entries names) in
     (added ≤ length entries)
     × IsOfLast last left
+    × IsAllButPlace t.was t.now
+    × (t.after ≡ t.before)
     × (c : InFlightChain)
     × (request : List ℕ)
     × (options : ℕ)
