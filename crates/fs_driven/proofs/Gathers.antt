@@ -217,17 +217,24 @@ never_refused old mid serial list list' entries names failure n reported new e a
         absurd (can_end (errno_after reported failure) mid new serial e is.0
         (subst (λ (w : Option ChainError). EndsUnless w (errno_after reported failure) mid new serial (Err e)) is.2 ends))
 
+not_ended : (why : Option ChainError) (errno : Option ℕ) (mid new : ChainHandle) (serial : ℕ) (e : ChainError)
+    → EndsUnless why errno mid new serial (Err e) → new ≡ mid
+not_ended None errno mid new serial e ends = same_when_refused errno mid new serial e ends
+not_ended (Some x) errno mid new serial e ends = ends.1
+
 refused_drives : (old mid new : ChainHandle) (q : QueueState) (serial : ℕ) (before list : List ℕ)
     (entries : Bor (List ListedEntry)) (names : Bor (List ℕ)) (failure : Option ℕ) (n : ℕ) (reported : Result Added ChainError)
     (e : ChainError)
-    → BringsNothing old mid serial before list entries.now names.now n reported
+    → BringsNothing old mid serial before list entries.now names.now n reported → IsAllButPlace old mid
     → EndsUnless (refused_by n reported) (errno_after reported failure) mid new serial (Err e)
     → (page_size : ℕ)
     → DrivesOne page_size old new q q (does.Gather serial entries names failure) (gives.Gathered n reported (Err e) list)
-refused_drives old mid new q serial before list entries names failure n reported e nothing ends page_size =
+refused_drives old mid new q serial before list entries names failure n reported e nothing stays ends page_size =
+    let is = not_ended (refused_by n reported) (errno_after reported failure) mid new serial e ends in
+    let same : IsAllButPlace old new = subst (λ (w : ChainHandle). IsAllButPlace old w) (sym is) stays in
     let r = nothing_reported old mid serial before list entries.now names.now failure n reported new e nothing ends in
     refuses page_size old new q (does.Gather serial entries names failure) (gives.Gathered n reported (Err e) list) r.1
-    (λ i k d d' u pop. (refl, r.0, r.1, refl, r.2))
+    (λ i k d d' u pop. (refl, r.0, r.1, same, refl, pop, r.2))
 
 -- ---- by what the calls ensure
 
@@ -263,4 +270,4 @@ gathered old mid new q serial before list entries names failure n reported (Ok l
     (ends_unless (refused_by n reported) (errno_after reported failure) mid new serial len ends) ws k there s i os pops push all)
 gathered old mid new q serial before list entries names failure n reported (Err e) all_in ends page_size =
     refused_drives old mid new q serial before list entries names failure n reported e
-    (never_refused old mid serial before list entries.now names.now failure n reported new e all_in ends) ends page_size
+    (never_refused old mid serial before list entries.now names.now failure n reported new e all_in ends) all_in.stays ends page_size

@@ -314,7 +314,9 @@ GatherReports t serial entries names failure added last (Err e) list es =
     (es ≡ [])
     × (added ≡ 0)
     × IsSameHeld t.was t.now
+    × IsAllButPlace t.was t.now
     × (t.after ≡ t.before)
+    × KeepsPop t
     × RefusesEntries t.was t.now serial list entries names failure last e
 GatherReports t serial entries names failure added last (Ok len) list es =
     let left = drop added (all_brought entries names) in
