@@ -1,5 +1,5 @@
 -- Where the names, values and pairs of a call lie in its request.
-use Rattle.std.specs.Prelude.{◌≡◌, ℕ, All, List, [], ◌∷◌, ◌++◌, length, Option, Some, None}
+use Rattle.std.specs.Prelude.{◌≡◌, ℕ, ◌+◌, ◌⊎◌, All, List, [], ◌∷◌, ◌++◌, length, Option, Some, None}
 use Rattle.fuse_values.specs.declared.placed.Placed.{Placed}
 use Rattle.fuse_values.specs.declared.received.Label.{Label}
 use Rattle.fuse_values.specs.declared.call.FileCall.{FileCall}
@@ -23,30 +23,46 @@ unfoldable pub NameStandsIn : (request : List ℕ) → Placed → Type 0
 NameStandsIn request name =
     At request name.at (name.bytes.now ++ (0 ∷ [])) × All IsNotZero name.bytes.now
 
--- the name and the bytes of a label, if there is one, lie in the request
+-- a name lies in the request at this offset
+abbrev pub NameStandsAt : (request : List ℕ) → Placed → (offset : ℕ) → Type 0
+NameStandsAt request name offset = NameStandsIn request name × (name.at ≡ offset)
+
+-- bytes lie behind the request's header (40 bytes) and a record of 8 or of 16 bytes
+abbrev pub LiesAtEither : Placed → Type 0
+LiesAtEither p = (p.at ≡ 48) ⊎ (p.at ≡ 56)
+
+-- bytes lie directly behind a name and its zero byte
+abbrev pub IsBehind : (name : Placed) → Placed → Type 0
+IsBehind name bytes = bytes.at ≡ name.at + (length name.bytes.now + 1)
+
+-- the name and the bytes of a label, if there is one, lie in the request, one behind the other
 abbrev pub LabelStandsIn : (request : List ℕ) → Option Label → Type 0
 LabelStandsIn request None = Unit {0}
-LabelStandsIn request (Some l) = NameStandsIn request l.name × StandsIn request l.secctx
+LabelStandsIn request (Some l) =
+    NameStandsIn request l.name × StandsIn request l.secctx × IsBehind l.name l.secctx
 
--- the names of a call lie in the request, and so do its value, its pairs, and its label
+-- the names of a call lie in the request, and so do its value, its pairs, and its label: the first
+-- one directly behind the header (40 bytes) and the record of its kind (linux/fuse.h), the second
+-- one directly behind it
 abbrev pub CallStandsIn : (request : List ℕ) → FileCall → Type 0
-CallStandsIn request (value.Lookup context node name) = NameStandsIn request name
-CallStandsIn request (value.BatchForget context counts) = StandsIn request counts
+CallStandsIn request (value.Lookup context node name) = NameStandsAt request name 40
+CallStandsIn request (value.BatchForget context counts) = StandsIn request counts × (counts.at ≡ 48)
 CallStandsIn request (value.Symlink context link node name extra) =
-    NameStandsIn request name × NameStandsIn request link × LabelStandsIn request extra.secctx
+    NameStandsAt request name 40 × NameStandsIn request link × IsBehind name link
+    × LabelStandsIn request extra.secctx
 CallStandsIn request (value.Mknod context node name mode rdev umask extra) =
-    NameStandsIn request name × LabelStandsIn request extra.secctx
+    NameStandsAt request name 56 × LabelStandsIn request extra.secctx
 CallStandsIn request (value.Mkdir context node name mode umask extra) =
-    NameStandsIn request name × LabelStandsIn request extra.secctx
-CallStandsIn request (value.Unlink context node name) = NameStandsIn request name
-CallStandsIn request (value.Rmdir context node name) = NameStandsIn request name
+    NameStandsAt request name 48 × LabelStandsIn request extra.secctx
+CallStandsIn request (value.Unlink context node name) = NameStandsAt request name 40
+CallStandsIn request (value.Rmdir context node name) = NameStandsAt request name 40
 CallStandsIn request (value.Rename context node old new_dir new flags) =
-    NameStandsIn request old × NameStandsIn request new
-CallStandsIn request (value.Link context old_node node name) = NameStandsIn request name
+    NameStandsIn request old × LiesAtEither old × NameStandsIn request new × IsBehind old new
+CallStandsIn request (value.Link context old_node node name) = NameStandsAt request name 48
 CallStandsIn request (value.Setxattr context node name content flags extra) =
-    NameStandsIn request name × StandsIn request content
-CallStandsIn request (value.Getxattr context node name size) = NameStandsIn request name
-CallStandsIn request (value.Removexattr context node name) = NameStandsIn request name
+    NameStandsIn request name × LiesAtEither name × StandsIn request content × IsBehind name content
+CallStandsIn request (value.Getxattr context node name size) = NameStandsAt request name 48
+CallStandsIn request (value.Removexattr context node name) = NameStandsAt request name 40
 CallStandsIn request (value.Create context node name mode kill flags umask extra) =
-    NameStandsIn request name × LabelStandsIn request extra.secctx
+    NameStandsAt request name 56 × LabelStandsIn request extra.secctx
 CallStandsIn request _ = Unit {0}

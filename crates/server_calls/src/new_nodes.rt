@@ -1,7 +1,7 @@
 //! Requests that create a node.
 
 ghost use Rattle.std.specs.Prelude.{◌≡◌, ℕ, List, [], refl};
-ghost use Rattle.fuse_values.specs.Places.{CallStandsIn, LabelStandsIn, NameStandsIn};
+ghost use Rattle.fuse_values.specs.Places.{CallStandsIn, IsBehind, LabelStandsIn, NameStandsAt, NameStandsIn};
 ghost use Rattle.fuse_values.specs.Values.{call_of, received_extra};
 ghost use Rattle.server_calls.specs.Requests.{mknod_call, mkdir_call, create_call, symlink_call};
 
@@ -107,8 +107,8 @@ pub fn symlink_value<'a>(
       link = link.entry.bytes.now;
       extra = received_extra extra.entry;
     }) }
-    ensures places { (all : List ℕ) → NameStandsIn all name.entry → NameStandsIn all link.entry
-        → LabelStandsIn all extra.entry.secctx → CallStandsIn all result }
+    ensures places { (all : List ℕ) → NameStandsAt all name.entry 40 → NameStandsIn all link.entry
+        → IsBehind name.entry link.entry → LabelStandsIn all extra.entry.secctx → CallStandsIn all result }
 {
     FileCall::Symlink {
         context: Context::from(*head),

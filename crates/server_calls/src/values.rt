@@ -1,10 +1,10 @@
 //! Requests by shape. Each shape makes a file call as a value; the call's names lie in the request.
 
-ghost use Rattle.std.specs.Prelude.{◌≡◌, ℕ, List, [], true};
+ghost use Rattle.std.specs.Prelude.{◌≡◌, ℕ, ◌+◌, List, [], true};
 ghost use Rattle.fuse_in.specs.declared.session.InHeader.{InHeader};
 ghost use Rattle.fuse_fs.specs.Calls as call;
 ghost use Rattle.fuse_fs.specs.Calls.{Extra};
-ghost use Rattle.fuse_values.specs.Places.{CallStandsIn, LabelStandsIn, NameStandsIn};
+ghost use Rattle.fuse_values.specs.Places.{CallStandsIn, IsBehind, LabelStandsIn, NameStandsAt, NameStandsIn};
 ghost use Rattle.fuse_values.specs.Values.{call_of, received_extra};
 ghost use Rattle.server_calls.specs.Callers.{CallShows, Header, Named, NamedRecord, Made, shape_of};
 ghost use Rattle.server_calls.specs.Callers.{is_record};
@@ -63,7 +63,7 @@ pub trait NameValue {
     /// The call.
     fn value<'a>(head: &InHeader, name: Placed<'a>) -> FileCall<'a>
         ensures reads { call_of [] result ≡ call head.now name.entry.bytes.now }
-        ensures places { (all : List ℕ) → NameStandsIn all name.entry → CallStandsIn all result };
+        ensures places { (all : List ℕ) → NameStandsAt all name.entry 40 → CallStandsIn all result };
 }
 
 /// A request that is one record and one name.
@@ -80,7 +80,8 @@ pub trait RecordNameValue {
     /// The call.
     fn value<'a>(head: &InHeader, request: &Self::Record, name: Placed<'a>) -> FileCall<'a>
         ensures reads { call_of [] result ≡ call head.now request.now name.entry.bytes.now }
-        ensures places { (all : List ℕ) → NameStandsIn all name.entry → CallStandsIn all result };
+        ensures places { (all : List ℕ) → NameStandsAt all name.entry (40 + Self.Record.SIZE)
+            → CallStandsIn all result };
 }
 
 /// A request that is one record and two names.
@@ -103,8 +104,8 @@ pub trait TwoNamesValue {
     ) -> FileCall<'a>
         ensures reads { call_of [] result
             ≡ call head.now request.now (old.entry.bytes.now, new.entry.bytes.now) }
-        ensures places { (all : List ℕ) → NameStandsIn all old.entry → NameStandsIn all new.entry
-            → CallStandsIn all result };
+        ensures places { (all : List ℕ) → NameStandsAt all old.entry (40 + Self.Record.SIZE)
+            → NameStandsIn all new.entry → IsBehind old.entry new.entry → CallStandsIn all result };
 }
 
 /// A request that is one record and the name of a new node.
@@ -127,6 +128,6 @@ pub trait NewNameValue {
     ) -> FileCall<'a>
         ensures reads { call_of [] result
             ≡ call head.now request.now (name.entry.bytes.now, received_extra extra.entry) }
-        ensures places { (all : List ℕ) → NameStandsIn all name.entry
+        ensures places { (all : List ℕ) → NameStandsAt all name.entry (40 + Self.Record.SIZE)
             → LabelStandsIn all extra.entry.secctx → CallStandsIn all result };
 }

@@ -230,7 +230,8 @@ pub(crate) fn pairs_asked<'a>(
         → length counts.entry.bytes.now ≡ 16 * length (pairs_in counts.entry.bytes.now)
         → m ≡ Asks (One head.now.unique (batch_forget_call head.now (pairs_in counts.entry.bytes.now)))
         → IsDecoded (setting page_size options room) m bytes result }
-    ensures places { (request : List ℕ) → StandsIn request counts.entry → DecodedStandsIn request result }
+    ensures places { (request : List ℕ) → StandsIn request counts.entry → counts.entry.at ≡ 48
+        → DecodedStandsIn request result }
     ensures asker { IsAskedBy (context_of head.now) result }
 {
     let context = Context::from(*head);

@@ -1,10 +1,10 @@
 //! The extensions after the names of a request that creates a node.
 
 ghost use Rattle.std.specs.Prelude.{◌≡◌, ℕ, ◌+◌, ◌<◌, ◌≤◌, ◌&&◌, ◌||◌, not, nat_le, List, take, drop, length};
-ghost use Rattle.std.specs.Prelude.{is_none, None, Ok, Err, IfOk, IfErr, false};
+ghost use Rattle.std.specs.Prelude.{is_none, Some, None, Ok, Err, IfOk, IfErr, false};
 ghost use Rattle.fuse_fs.specs.Answers.{extra_of, security_of};
 ghost use Rattle.server_requests.specs.Reading.{Faults, outcome, record_parser, value_of};
-ghost use Rattle.fuse_values.specs.Places.{LabelStandsIn, NameStandsIn, StandsIn};
+ghost use Rattle.fuse_values.specs.Places.{LabelStandsIn, StandsIn};
 ghost use Rattle.fuse_values.specs.Values.{label_of, received_extra};
 ghost use Rattle.server_requests.specs.Extras.{takes_security, takes_group, sent_of, nothing_sent};
 ghost use Rattle.server_requests.specs.Extras.{security_context, one_group, part, extension, extensions};
@@ -66,6 +66,7 @@ fn split_placed(bytes: Placed<'_>, n: usize) -> (Placed<'_>, Placed<'_>)
     ensures rest { length result.1.bytes.now + n ≡ length bytes.entry.bytes.now }
     ensures places { (request : List ℕ) → StandsIn request bytes.entry
         → StandsIn request result.0 × StandsIn request result.1 }
+    ensures at { result.0.at ≡ bytes.entry.at }
 {
     let (front, rest) = bytes.bytes.split_at(n);
     let at = bytes.at + n as u32;
@@ -104,7 +105,7 @@ fn security_context(bytes: Placed<'_>) -> Result<Label<'_>, Error>
     ensures reads { outcome label_of result ≡ value_of (security_context bytes.entry.bytes.now) }
     ensures fault { IfErr result (λ e. is_memory e ≡ false) }
     ensures places { IfOk result (λ label. (request : List ℕ) → StandsIn request bytes.entry
-        → NameStandsIn request label.name × StandsIn request label.secctx) }
+        → LabelStandsIn request (Some label)) }
 {
     match front_record::<Secctx>(bytes) {
         Ok(head) => {

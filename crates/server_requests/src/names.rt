@@ -4,7 +4,7 @@ ghost use Rattle.std.specs.Prelude.{◌≡◌, ℕ, ◌+◌, ◌-◌, ◌<◌, �
 ghost use Rattle.std.specs.Prelude.{Some, None, IfOk, IfErr, IfSome, IfNone, false, true};
 ghost use Rattle.std.specs.Cow.{cow_slice_items};
 ghost use Rattle.fuse_fs.specs.Lengths.{first, past};
-ghost use Rattle.fuse_values.specs.Places.{NameStandsIn, StandsIn};
+ghost use Rattle.fuse_values.specs.Places.{IsBehind, NameStandsIn, StandsIn};
 ghost use Rattle.server_requests.specs.Reading.{Faults, value_of, at_zero, last_name, two_names};
 ghost use Rattle.server_requests.specs.Reading.{name_and_value, front_name};
 ghost use Rattle.server_requests.specs.Fronts.{counted, is_split};
@@ -94,6 +94,7 @@ pub(crate) fn first_name(bytes: Placed<'_>) -> Option<(Placed<'_>, Placed<'_>)>
     ensures none { IfNone result (at_zero bytes.entry.bytes.now ≡ None) }
     ensures places { IfSome result (λ p. (request : List ℕ) → StandsIn request bytes.entry
         → NameStandsIn request p.0 × StandsIn request p.1) }
+    ensures at { IfSome result (λ p. (p.0.at ≡ bytes.entry.at) × IsBehind p.0 p.1) }
 {
     match zero_at(bytes.bytes) {
         Some(end) => {
@@ -119,6 +120,7 @@ pub fn last_name(bytes: Placed<'_>) -> Result<Placed<'_>, Error>
         × (is_memory e ≡ false)) }
     ensures places { IfOk result
         (λ name. (request : List ℕ) → StandsIn request bytes.entry → NameStandsIn request name) }
+    ensures at { IfOk result (λ name. name.at ≡ bytes.entry.at) }
 {
     match first_name(bytes) {
         Some((name, rest)) => {
@@ -143,6 +145,7 @@ pub fn two_names(bytes: Placed<'_>) -> Result<(Placed<'_>, Placed<'_>), Error>
         × (is_memory e ≡ false)) }
     ensures places { IfOk result (λ p. (request : List ℕ) → StandsIn request bytes.entry
         → NameStandsIn request p.0 × NameStandsIn request p.1) }
+    ensures at { IfOk result (λ p. (p.0.at ≡ bytes.entry.at) × IsBehind p.0 p.1) }
 {
     match first_name(bytes) {
         Some((old, rest)) => match last_name(rest) {
@@ -164,6 +167,7 @@ pub fn name_and_value(bytes: Placed<'_>, size: u32) -> Result<(Placed<'_>, Place
         × (is_memory e ≡ false)) }
     ensures places { IfOk result (λ p. (request : List ℕ) → StandsIn request bytes.entry
         → NameStandsIn request p.0 × StandsIn request p.1) }
+    ensures at { IfOk result (λ p. (p.0.at ≡ bytes.entry.at) × IsBehind p.0 p.1) }
 {
     match first_name(bytes) {
         Some((name, value)) => {
@@ -195,6 +199,8 @@ pub(crate) fn front_name(bytes: Placed<'_>) -> Result<FrontName<'_>, Error>
         × (is_memory e ≡ false)) }
     ensures places { IfOk result (λ x. x.ends ≡ true → (request : List ℕ) → StandsIn request bytes.entry
         → NameStandsIn request x.name × StandsIn request x.rest) }
+    ensures at { IfOk result
+        (λ x. (x.name.at ≡ bytes.entry.at) × (x.ends ≡ true → IsBehind x.name x.rest)) }
 {
     if bytes.bytes.is_empty() {
         return Err(Error::MissingParameter);

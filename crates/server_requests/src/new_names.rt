@@ -3,7 +3,7 @@
 ghost use Rattle.std.specs.Prelude.{◌≡◌, ℕ, ◌&&◌, List, Ok, Err, IfOk, IfErr, false};
 ghost use Rattle.server_segments.specs.Errors.{is_memory};
 ghost use Rattle.server_requests.specs.Reading.{Faults, value_of};
-ghost use Rattle.fuse_values.specs.Places.{LabelStandsIn, NameStandsIn, StandsIn};
+ghost use Rattle.fuse_values.specs.Places.{IsBehind, LabelStandsIn, NameStandsIn, StandsIn};
 ghost use Rattle.fuse_values.specs.Values.{received_extra};
 ghost use Rattle.server_requests.specs.Extras.{new_name, new_link};
 
@@ -48,6 +48,7 @@ pub fn new_name<'a>(options: FsOptions, bytes: Placed<'a>) -> Result<NewName<'a>
         × (is_memory e ≡ false)) }
     ensures places { IfOk result (λ x. (request : List ℕ) → StandsIn request bytes.entry
         → NameStandsIn request x.name × LabelStandsIn request x.received.secctx) }
+    ensures at { IfOk result (λ x. x.name.at ≡ bytes.entry.at) }
 {
     match front_name(bytes) {
         Ok(front) => match received_extensions(options, front.rest) {
@@ -92,6 +93,7 @@ pub fn new_link<'a>(options: FsOptions, bytes: Placed<'a>) -> Result<LinkParts<'
     ensures places { IfOk result (λ x. (request : List ℕ) → StandsIn request bytes.entry
         → NameStandsIn request x.name × NameStandsIn request x.link
         × LabelStandsIn request x.received.secctx) }
+    ensures at { IfOk result (λ x. (x.name.at ≡ bytes.entry.at) × IsBehind x.name x.link) }
 {
     match front_name(bytes) {
         Ok(front) => match front_name(front.rest) {

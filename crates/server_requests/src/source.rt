@@ -2,7 +2,7 @@
 
 ghost use Rattle.std.specs.Prelude.{◌≡◌, ◌+◌, ◌-◌, ◌≤◌, ◌*◌, ◌&&◌, ℕ, Bool, true, false, List, [], ◌++◌};
 ghost use Rattle.std.specs.Prelude.{length, Ok, Err, IfOk, IfErr, OnOk};
-ghost use Rattle.fuse_values.specs.Places.{StandsIn};
+ghost use Rattle.fuse_values.specs.Places.{LiesAtEither, StandsIn};
 ghost use Rattle.fuse_values.specs.Values.{pairs_in};
 ghost use Rattle.server_requests.specs.Reading.{Faults, many, record_parser, read_result, value_of};
 ghost use Rattle.server_requests.specs.Fronts.{counted, counted_split, flags2_of, forget_pair, is_split};
@@ -51,6 +51,7 @@ pub trait Source<'a> {
         ensures bytes { IfOk result (λ p. Ok p.bytes.now ≡ value_of (counted len fixed (left self))) }
         ensures places { IfOk result
             (λ p. (front : List ℕ) → length front ≡ 40 + fixed → StandsIn (front ++ left self) p) }
+        ensures at { IfOk result (λ p. p.at ≡ 40 + fixed) }
         ensures fault { IfErr result (λ e. is_memory e ≡ false
             → Err (Faults e) ≡ value_of (counted len fixed (left self))) }
         ensures in_place { (splits && is_split (len - 40 - fixed) (segments self)) ≡ false
@@ -110,6 +111,7 @@ impl<'a> Flat<'a> {
         ensures whole { IfOk result (λ p. length p.bytes.now ≡ 16 * count) }
         ensures places { IfOk result
             (λ p. (front : List ℕ) → length front ≡ 48 → StandsIn (front ++ self.entry.bytes.now) p) }
+        ensures at { IfOk result (λ p. p.at ≡ 48) }
         ensures fault { IfErr result
             (λ e. Err (Faults e) ≡ value_of (many count forget_pair self.entry.bytes.now)) }
     {
@@ -207,6 +209,7 @@ pub fn record_and_bytes<'a, T: InRecord, S: Source<'a> + Drop>(
         → Err (Faults e) ≡ value_of (with_bytes T.shape T.SIZE len (S.left source))) }
     ensures places { IfOk result (λ x. (header : List ℕ) → length header ≡ 40
         → StandsIn (header ++ S.left source) x.bytes) }
+    ensures at { IfOk result (λ x. x.bytes.at ≡ 40 + T.SIZE) }
     ensures in_place { (S.splits && counted_split len T.SIZE (S.segments source)) ≡ false
         → IfErr result (λ e. is_memory e ≡ false) }
 {
@@ -234,6 +237,7 @@ pub fn setxattr_and_bytes<'a, S: Source<'a> + Drop>(
         → Err (Faults e) ≡ value_of (setxattr_front options.0 len (S.left source))) }
     ensures places { IfOk result (λ x. (header : List ℕ) → length header ≡ 40
         → StandsIn (header ++ S.left source) x.bytes) }
+    ensures at { IfOk result (λ x. LiesAtEither x.bytes) }
     ensures in_place { (S.splits && counted_split len (setxattr_len options.0) (S.segments source)) ≡ false
         → IfErr result (λ e. is_memory e ≡ false) }
 {
