@@ -138,7 +138,7 @@ fn return_preserved(
     }
 }
 
-/// Tells the stores of a push, and writes the reply's front to a buffer. Returns a status.
+/// Reports the stores of a push, and writes the reply's front to a buffer. Returns a status.
 pub fn push_handle(
     handle: &mut ChainHandle,
     queue: &mut FsQueue,

@@ -1,5 +1,6 @@
 //! The functions of pitskhomu.h, which lies beside fs_chain_c: 42 exports, each a few lines over that
-//! crate. The modules `.._called` call them in ways that meet the hypotheses of its laws.
+//! crate, and `pk_build`, which the archive adds. The modules `.._called` call the exports in ways that meet
+//! the hypotheses of its laws.
 #![tactic(auto)]
 
 pub mod chains;
