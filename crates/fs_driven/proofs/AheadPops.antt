@@ -16,7 +16,7 @@ use Rattle.fs_regions.specs.declared.ahead.LoadAhead.{LoadAhead}
 use Rattle.fs_chain.specs.declared.loads.LoadOutcome as outcome
 use Rattle.fs_chain.specs.declared.loads.LoadOutcome.TheVariants as outcomes
 use Rattle.fs_chain.specs.declared.popping.PopOutcome as walked
-use Rattle.fs_driven.specs.Reported.{DrivesOne, Reports, turn}
+use Rattle.fs_driven.specs.Reported.{DrivesOne, Reports, transition}
 use Rattle.fs_chain.specs.Orders.{is_out}
 use Rattle.fs_chain.specs.declared.chain_handle.ChainHandle.{ChainHandle}
 use Rattle.fs_driven.specs.declared.commands.Command.TheVariants as does
@@ -68,7 +68,7 @@ ahead_drives page_size old new q q' ahead bytes reported free same pop ws k ther
     all.small in
     popped s i page_size k q q' ws os pops push old new
     (pop_of q by.0) reported
-    (λ es d. Reports (turn i.number page_size k (desk_before s i ws os pops) d old new q q') (does.PopAhead ahead bytes) u
+    (λ es d. Reports (transition i.number page_size k (desk_before s i ws os pops) d old new q q') (does.PopAhead ahead bytes) u
     (gives.PoppedAhead (Ok reported)) es)
     all there (ap is_out free) same refl
     (λ after os' loads' es reports. (pop, by.0, by.1, reports))

@@ -25,7 +25,7 @@ use Rattle.live_machine.specs.Live.{Happens, room_of, serving}
 use Rattle.fs_chain.specs.Answers.{CanBeGiven, IfWaits, IsGiven, IsNotTaken, IsWaiting}
 use Rattle.fs_driven.specs.Desks.{Begun, Desk, IsReady, own, with_pop}
 use Rattle.fs_driven.specs.Reported.{Reports, DrivesOne, Unseen, data_of, forgetting}
-use Rattle.fs_driven.specs.Reported.{turn}
+use Rattle.fs_driven.specs.Reported.{transition}
 use Rattle.fs_driven.specs.Preserved.{KeepsMemory}
 use Rattle.fs_chain.specs.Holds.{Answers, ForgettingIs, HoldsChain, served_so}
 use Rattle.fs_chain.specs.Holds.{IsHeldIn}
@@ -183,7 +183,7 @@ answer_drives page_size old new q serial a reported waits given answers kept ws 
     has.holds (data_reported a u) in
     answered_by s i page_size k q ws has.ob has.oh pops push old new c asked.0 asked.1 an.0 (answer_of bytes a)
     reported.forget
-    (λ es d. Reports (turn i.number page_size k (desk_before s i ws os pops) d old new q q) (does.Answer serial a) u
+    (λ es d. Reports (transition i.number page_size k (desk_before s i ws os pops) d old new q q) (does.Answer serial a) u
     (gives.Answered (Ok reported)) es)
     has.driven there
     (all.mine old c there own_one.1).0 (kept.0.0.0, kept.0.0.1) an.1.0 an.1.1

@@ -24,7 +24,7 @@ use Rattle.fuse_values.specs.declared.call.FileCall as made_call
 use Rattle.fs_chain.specs.Decoding.{KeepsCall, KeepsReply}
 use Rattle.fs_driven.specs.Desks.{Begun, Desk, FitsRun, IsReady, MayPop, own, with_pop}
 use Rattle.fs_driven.specs.Reported.{DrivesOne, Reports, Unseen, exactly}
-use Rattle.fs_driven.specs.Reported.{turn}
+use Rattle.fs_driven.specs.Reported.{transition}
 use Rattle.fs_driven.specs.Preserved.{IsSameHeld, KeepsMemory}
 use Rattle.fs_chain.specs.Holds.{HoldsChain, IsRepliedWith}
 use Rattle.fs_chain.specs.Holds.{HoldsPop, IsHeldIn, IsOutAs, IsQueue}
@@ -177,14 +177,14 @@ pub refuses : (page_size : ℕ) (old new : ChainHandle) (q : QueueState) (comman
     (returned : Returned)
     → IsSameHeld old new
     → ((i k : ℕ) (d d' : Desk) (u : Unseen) → d'.pops k ≡ d.pops k →
-    Reports (turn i page_size k d d' old new q q) command u returned [])
+    Reports (transition i page_size k d d' old new q q) command u returned [])
     → DrivesOne page_size old new q q command returned
 refuses page_size old new q command returned same reports = drives_one command returned at_spot
   where
     at_spot : DrivesAt page_size old new q q command returned
     at_spot ws k there u s i os pops push all =
         stays s i page_size k q ws os pops push old new
-        (λ es d. Reports (turn i.number page_size k (desk_before s i ws os pops) d old new q q) command u returned es)
+        (λ es d. Reports (transition i.number page_size k (desk_before s i ws os pops) d old new q q) command u returned es)
         all there same
         (λ after loads' pop. reports i.number k (desk_before s i ws os pops)
         (desk_after s i (with_handle ws k new) q after loads' push) u pop)

@@ -24,7 +24,7 @@ use Rattle.live_machine.specs.Live.{Happens, room_of_phase, serving}
 use Rattle.fs_chain.specs.Decoding.{IfUndecoded, ReportsMeaning, wanted_after, wanted_by}
 use Rattle.fs_driven.specs.Desks.{Begun, Desk, FitsRun, In, IsReady, own, with_pop}
 use Rattle.fs_driven.specs.Reported.{DrivesOne, Reports, Unseen, asked_len_of, exactly}
-use Rattle.fs_driven.specs.Reported.{request_of, setting_of, turn}
+use Rattle.fs_driven.specs.Reported.{request_of, setting_of, transition}
 use Rattle.fs_driven.specs.Preserved.{KeepsMemory}
 use Rattle.fs_chain.specs.Holds.{Decodes, DecodingIs, HoldsChain}
 use Rattle.fs_chain.specs.Holds.{Machine, Pop}
@@ -250,7 +250,7 @@ decode_reports : (s : Machine) (i : Spot) (page_size k : ℕ) (q : QueueState) (
     (ReportsRequest session (request_of front.now u (asked_len_of old.state)) reported new)
     → KeepsAsked session old new
     → DecodingReports s i q ws' k push c (request_of front.now u (asked_len_of old.state)) session.options.0 reported
-    (λ es d. Reports (turn i.number page_size k (desk_before s i ws os pops) d old new q q) (does.Decode session front) u
+    (λ es d. Reports (transition i.number page_size k (desk_before s i ws os pops) d old new q q) (does.Decode session front) u
     (gives.Decoded (Ok reported)) es)
 decode_reports s i page_size k q ws ws' os pops push old new c session front u (asks.More n) mine wanted means kept =
     λ after loads'. (wanted, means, (kept.0, refl), kept.1, refl)
@@ -290,7 +290,7 @@ decode_taken old new q session front reported out is fits means wanted kept deco
     decoded_by s i session.page_size k q ws has.ob has.oh pops push old new c request options reported
     (setting session.page_size options out.room_len)
     (meaning options request out.room_len) (drop 80 request) out
-    (λ es d. Reports (turn i.number session.page_size k (desk_before s i ws os pops) d old new q q)
+    (λ es d. Reports (transition i.number session.page_size k (desk_before s i ws os pops) d old new q q)
     (does.Decode session front) u (gives.Decoded (Ok reported)) es)
     has.driven there (all.mine old c there own_one.1).0 o.0 (kept.0.0.0, kept.0.0.1) (all.fits old there) d has.chains so
     (decode_reports s i session.page_size k q ws (with_handle ws k new) os pops push old new c session front u

@@ -25,7 +25,7 @@ use Rattle.live_machine.specs.Live.{GivesUpChain, after_giving_up}
 use Rattle.fs_driven.specs.Desks.{Begun, FitsRun, IsReady, IsUnderWay, MayPop, own}
 use Rattle.fs_driven.specs.Desks.{no_pop, with_pop}
 use Rattle.fs_driven.specs.Reported.{DrivesOne, GiveUpReports, Reports, Unseen, asked_len_of, exactly, replied_to}
-use Rattle.fs_driven.specs.Reported.{turn}
+use Rattle.fs_driven.specs.Reported.{transition}
 use Rattle.fs_driven.specs.Preserved.{KeepsMemory}
 use Rattle.live_machine.specs.Live.{Abandoned, Asked, Fetched, IsUnreplied, Own, Phase}
 use Rattle.live_machine.specs.Live.{RepliesOwnBytes, after_own, own_exchange}
@@ -274,7 +274,7 @@ give_up_drives page_size old new q q' clear free left gives_up ws k there u s i 
     state_is = ap (λ (w : ChainHandle). w.state) free
 
     by_out : (b : Bool) → is_out old.state ≡ b → LeadsAt s i page_size k pops q' (with_handle ws k new)
-        (λ es d. Reports (turn i.number page_size k (desk_before s i ws os pops) d old new q q') does.GiveUp u
+        (λ es d. Reports (transition i.number page_size k (desk_before s i ws os pops) d old new q q') does.GiveUp u
         (gives.GaveUp (Ok tt)) es)
     by_out false none =
         let same : q' ≡ q = left ∙ left_by q (is_out old.state) false none in
@@ -297,7 +297,7 @@ give_up_drives page_size old new q q' clear free left gives_up ws k there u s i 
             clear,
             free,
             left,
-            subst (λ (b : Bool). GiveUpReports (turn i.number page_size k (desk_before s i ws os pops)
+            subst (λ (b : Bool). GiveUpReports (transition i.number page_size k (desk_before s i ws os pops)
                 (desk_after s i (with_handle ws k new) q' os (with_pop pops k no_pop) push) old new q q') b []) (sym none) refl,
           ),
         )
@@ -335,7 +335,7 @@ give_up_drives page_size old new q q' clear free left gives_up ws k there u s i 
             clear,
             free,
             left,
-            subst (λ (b : Bool). GiveUpReports (turn i.number page_size k (desk_before s i ws os pops)
+            subst (λ (b : Bool). GiveUpReports (transition i.number page_size k (desk_before s i ws os pops)
                 (desk_after after i (with_handle ws k new) q' (has.ob ++ has.oh) (with_pop pops k no_pop) push) old new q q') b
                 (GivesUpChain c ∷ [])) (sym some) (c, own_one.1, refl),
           ),

@@ -27,7 +27,7 @@ use Rattle.fs_driven.specs.Entries.{IsOfLast, all_brought, answers_of, ending_of
 use Rattle.fs_driven.specs.Preserved.{IsSameHeld}
 use Rattle.fs_chain.specs.Walks.{IsAllButPlace}
 use Rattle.fs_driven.proofs.Bringing.{stays_then}
-use Rattle.fs_driven.specs.Reported.{DrivesOne, GatherReports, RefusesEntries, turn}
+use Rattle.fs_driven.specs.Reported.{DrivesOne, GatherReports, RefusesEntries, transition}
 use Rattle.fs_driven.specs.declared.commands.Command.TheVariants as does
 use Rattle.fs_driven.specs.declared.commands.Returned.TheVariants as gives
 use Rattle.fs_driven.specs.declared.entries.ListedEntry.{ListedEntry}
@@ -119,8 +119,8 @@ gathered_drives : (page_size : ℕ) (old mid new : ChainHandle) (q : QueueState)
     → (s : Machine) (i : Spot) (os : List Owned) (pops : ℕ → Pop) (push : Option Begun)
     → DrivenAt s i page_size k q ws os pops push
     → LeadsAt s i page_size k pops q (with_handle ws k new)
-    (λ es d. GatherReports (turn i.number page_size k (desk_before s i ws os pops) d old new q q) serial entries names failure n reported
-    (Ok len) list es)
+    (λ es d. GatherReports (transition i.number page_size k (desk_before s i ws os pops) d old new q q) serial entries names failure
+    n reported (Ok len) list es)
 gathered_drives page_size old mid new q serial before list entries names failure n len reported all_in ends ws k there s i os
     pops push all =
     let mid_was = ended_listing (errno_after reported failure) mid new serial len ends in
@@ -143,8 +143,8 @@ gathered_drives page_size old mid new q serial before list entries names failure
     (stays_to_end (errno_after reported failure) mid new serial (Ok len) ends) in
     answered_all s i page_size k q ws has.ob has.oh pops push old new c h.request h.options calls after
     (answers_of c h.request h.options [] calls)
-    (λ es d. GatherReports (turn i.number page_size k (desk_before s i ws os pops) d old new q q) serial entries names failure n reported
-    (Ok len) list es)
+    (λ es d. GatherReports (transition i.number page_size k (desk_before s i ws os pops) d old new q q) serial entries names failure
+    n reported (Ok len) list es)
     has.driven there mine.0 (stays.0.0, stays.0.1) r.listed.holds
     (no_push new.state h.out r.listed.preserved r.listed.state) r.listed.none_pending
     r.run.2 refl refl refl refl r.run.3

@@ -26,7 +26,7 @@ use Rattle.fs_chain.specs.declared.state.InFlight.{InFlight}
 use Rattle.fs_driven.specs.declared.commands.Command.TheVariants as does
 use Rattle.fs_driven.specs.declared.commands.Returned.TheVariants as gives
 use Rattle.fs_driven.specs.Desks.{Begun, IsReady}
-use Rattle.fs_driven.specs.Reported.{DrivesOne, ReportsListing, turn}
+use Rattle.fs_driven.specs.Reported.{DrivesOne, ReportsListing, transition}
 use Rattle.fs_chain.proofs.HoldsListed.{begins_listing, reads_directory}
 use Rattle.fs_chain.proofs.Together.{chains_of}
 use Rattle.fs_driven.proofs.Handles.{has_own}
@@ -112,7 +112,7 @@ listing_drives : (page_size : ℕ) (old new : ChainHandle) (q : QueueState) (ser
     → (s : Machine) (i : Spot) (os : List Owned) (pops : ℕ → Pop) (push : Option Begun)
     → DrivenAt s i page_size k q ws os pops push
     → LeadsAt s i page_size k pops q (with_handle ws k new)
-    (λ es d. ReportsListing (turn i.number page_size k (desk_before s i ws os pops) d old new q q) serial answer P (Ok len) es)
+    (λ es d. ReportsListing (transition i.number page_size k (desk_before s i ws os pops) d old new q q) serial answer P (Ok len) es)
 listing_drives page_size old new q serial answer P len was same suited listed reported ws k there s i os pops push
     all =
     let own_one = all.outs old there (ap is_out was.2) in
@@ -128,7 +128,7 @@ listing_drives page_size old new q serial answer P len was same suited listed re
     let after : Machine = after_answer s (chains_of has.ob) (chains_of has.oh) c h.request h.options calls tt in
     answered_all s i page_size k q ws has.ob has.oh pops push old new c h.request h.options calls after
     (ReceivesAnswer c call answer ∷ [])
-    (λ es d. ReportsListing (turn i.number page_size k (desk_before s i ws os pops) d old new q q) serial answer P (Ok len) es)
+    (λ es d. ReportsListing (transition i.number page_size k (desk_before s i ws os pops) d old new q q) serial answer P (Ok len) es)
     has.driven there mine.0 (same.0.0, same.0.1) r.holds (no_push new.state h.out r.preserved r.state) r.none_pending
     (after, reads.0, refl) refl refl refl refl refl
     (λ after' os' pops'. (c, call, h.request, h.options, own_one.1, h.phase, refl, same, refl, reported))

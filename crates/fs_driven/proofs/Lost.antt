@@ -20,7 +20,7 @@ use Rattle.fs_driven.specs.declared.commands.Command.TheVariants as does
 use Rattle.fs_driven.specs.declared.commands.Returned.TheVariants as gives
 use Rattle.fs_driven.specs.Desks.{Begun, Driven, FitsRun, HasInFlight, In, IsLost, MayPop, lost, no_pop, number_of, own}
 use Rattle.fs_driven.specs.Desks.{with_pop, with_push, with_queue}
-use Rattle.fs_driven.specs.Reported.{AbandonReports, DrivesOne, Reports, turn}
+use Rattle.fs_driven.specs.Reported.{AbandonReports, DrivesOne, Reports, transition}
 use Rattle.fs_chain.proofs.Together.{chains_of}
 use Rattle.fs_driven.proofs.Counts.{number_other}
 use Rattle.fs_driven.proofs.Among.{among, here, not_lost, put}
@@ -133,7 +133,7 @@ unfolding AbandonsChain
 drops old new q freed abandons page_size ws k there u s i os pops push all = by_out (is_out old.state) refl
   where
     by_out : (b : Bool) → is_out old.state ≡ b → LeadsAt s i page_size k pops q (with_handle ws k new)
-        (λ es d. Reports (turn i.number page_size k (desk_before s i ws os pops) d old new q q) does.Abandon u
+        (λ es d. Reports (transition i.number page_size k (desk_before s i ws os pops) d old new q q) does.Abandon u
         gives.Abandoned es)
     by_out false none = (
       [],
@@ -149,7 +149,7 @@ drops old new q freed abandons page_size ws k there u s i os pops push all = by_
       (
         freed,
         refl,
-        subst (λ (b : Bool). AbandonReports (turn i.number page_size k (desk_before s i ws os pops)
+        subst (λ (b : Bool). AbandonReports (transition i.number page_size k (desk_before s i ws os pops)
             (desk_after s i (with_handle ws k new) q os (with_pop pops k no_pop) push) old new q q) b []) (sym none)
             refl,
       ),
@@ -189,7 +189,7 @@ drops old new q freed abandons page_size ws k there u s i os pops push all = by_
           (
             freed,
             refl,
-            subst (λ (b : Bool). AbandonReports (turn i.number page_size k (desk_before s i ws os pops)
+            subst (λ (b : Bool). AbandonReports (transition i.number page_size k (desk_before s i ws os pops)
                 (desk_after after i (with_handle ws k new) q (has.ob ++ lost c' ∷ has.oh) (with_pop pops k no_pop) push)
                 old new q q) b (Abandons c ∷ [])) (sym some)
                 (c, own_one.1, refl, here has.ob has.oh (lost c')),

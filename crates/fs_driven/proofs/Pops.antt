@@ -50,7 +50,7 @@ use Rattle.live_machine.specs.Live.{Phase}
 use Rattle.live_machine.specs.Live.{PushedWith}
 use Rattle.live_machine.specs.Live.{Happens}
 use Rattle.fs_driven.specs.Desks.{Begun, Desk, FitsRun, IsReady, MayPop, no_pop, own, with_pop}
-use Rattle.fs_driven.specs.Reported.{DrivesOne, IsLoadedBy, PopReports, Reports, Turn, turn}
+use Rattle.fs_driven.specs.Reported.{DrivesOne, IsLoadedBy, PopReports, Reports, Transition, transition}
 use Rattle.fs_driven.specs.Preserved.{KeepsMemory}
 use Rattle.fs_chain.specs.Holds.{IsHeldIn, IsQueue}
 use Rattle.fs_chain.specs.Holds.{Machine, Pop}
@@ -269,7 +269,7 @@ refused s i page_size k q q' ws os pops push old new reported T all there free s
     )
 
 -- the event of a pop that ended by itself is told by its result
-ends_tell : (t : Turn) (s after : Machine) (q : LiveQueue) (loaded : Loaded) (came : comes.CourseStep)
+ends_tell : (t : Transition) (s after : Machine) (q : LiveQueue) (loaded : Loaded) (came : comes.CourseStep)
     (reported : walked.PopOutcome) → reported ≡ reported_of t.now.descriptors.items came
     → EndsPopIn s t.queue q loaded t.now.descriptors.items came after
     → PopReports t loaded reported (EndsPop t.queue loaded t.now.descriptors.items came ∷ [])
@@ -293,7 +293,7 @@ abbrev GivesPop : Spot → (page_size k : ℕ) → Desk → (q q' : QueueState) 
 GivesPop i page_size k d q q' push old new loaded reported T =
     (after : Machine) (os : List Owned) (pops : ℕ → Pop) (es : List LiveEvent) →
     let d' : Desk = desk_after after i (with_handle d.handles k new) q' os pops push in
-    PopReports (turn i.number page_size k d d' old new q q') loaded reported es → T es d'
+    PopReports (transition i.number page_size k d d' old new q q') loaded reported es → T es d'
 
 ends_or_refused : (s : Machine) (i : Spot) (page_size k : ℕ) (q q' : QueueState) (ws : List ChainHandle)
     (os : List Owned) (pops : ℕ → Pop) (push : Option Begun) (old new : ChainHandle) (loaded : Loaded)
@@ -307,14 +307,14 @@ ends_or_refused s i page_size k q q' ws os pops push old new loaded reported T a
     ended s i page_size k q q' ws os pops push old new loaded e.came T all there free same e.happens e.queue
     e.has
     (λ after os' loads'. give after os' loads' (EndsPop i.number loaded new.descriptors.items e.came ∷ [])
-    (ends_tell (turn i.number page_size k (desk_before s i ws os pops)
+    (ends_tell (transition i.number page_size k (desk_before s i ws os pops)
     (desk_after after i (with_handle ws k new) q' os' loads' push) old new q q') s
     (after_pop s i.number (live_of q) loaded new.descriptors.items e.came) e.happens.w loaded e.came reported e.reported_is
     e.happens.ends))
 ends_or_refused s i page_size k q q' ws os pops push old new loaded reported T all there free same give (inr r) =
     refused s i page_size k q q' ws os pops push old new reported T all there free same r
     (λ after os' loads'. give after os' loads' (RefusesPop i.number r.error ∷ [])
-    (subst (λ (x : walked.PopOutcome). PopReports (turn i.number page_size k (desk_before s i ws os pops)
+    (subst (λ (x : walked.PopOutcome). PopReports (transition i.number page_size k (desk_before s i ws os pops)
     (desk_after after i (with_handle ws k new) q' os' loads' push) old new q q') loaded x (RefusesPop i.number r.error ∷ []))
     (sym r.reported_is) (inr refl)))
 
@@ -368,12 +368,12 @@ begins page_size old new q q' bytes outcomes.Part free proceeds begin same ws k 
 begins page_size old new q q' bytes (outcomes.On reported) free proceeds begin same ws k there u s i os pops push all =
     let was = all.fits old there in
     let loads : (after : Desk) → IsLoadedBy old.state
-    (turn i.number page_size k (desk_before s i ws os pops) after old new q q') bytes.now reported nothing =
+    (transition i.number page_size k (desk_before s i ws os pops) after old new q q') bytes.now reported nothing =
     λ after. subst (λ (st : state.ChainState). IsLoadedBy st
-    (turn i.number page_size k (desk_before s i ws os pops) after old new q q') bytes.now reported nothing) (sym free) refl in
+    (transition i.number page_size k (desk_before s i ws os pops) after old new q q') bytes.now reported nothing) (sym free) refl in
     popped s i page_size k q q' ws os pops push old new
     (pop_of q nothing) reported
-    (λ es d. Reports (turn i.number page_size k (desk_before s i ws os pops) d old new q q') (does.Pop bytes) u
+    (λ es d. Reports (transition i.number page_size k (desk_before s i ws os pops) d old new q q') (does.Pop bytes) u
     (gives.Popped (Ok (outcomes.On reported))) es)
     all there (ap is_out free) same refl
     (λ after os' loads' es reports.
@@ -392,7 +392,7 @@ continues page_size old new q q' bytes outcomes.Part course pop_id walk is proce
     let was = all.fits old there in
     let may = subst (λ (st : state.ChainState). MayPop s.limit q (pops k) old st) is was.2 in
     still s i page_size k q q' ws os pops push old new (pops k)
-    (λ es d. Reports (turn i.number page_size k (desk_before s i ws os pops) d old new q q') (does.Pop bytes) u
+    (λ es d. Reports (transition i.number page_size k (desk_before s i ws os pops) d old new q q') (does.Pop bytes) u
     (gives.Popped (Ok outcomes.Part)) es)
     all there (ap is_out is) same.memory may.1
     (go s i.number (pops k) may.0 all.queue was.0 may.1 all.small)
@@ -407,11 +407,11 @@ continues page_size old new q q' bytes (outcomes.On reported) course pop_id walk
     λ carries_on. subst (λ (st : state.ChainState). AddsSo st (outcomes.On reported) new.descriptors.items
     (pops k).loaded (whole old bytes.now) on.0) is (on.1 carries_on) in
     let loads : (after : Desk) → IsLoadedBy old.state
-    (turn i.number page_size k (desk_before s i ws os pops) after old new q q') bytes.now reported on.0 =
+    (transition i.number page_size k (desk_before s i ws os pops) after old new q q') bytes.now reported on.0 =
     λ after. subst (λ (st : state.ChainState). IsLoadedBy st
-    (turn i.number page_size k (desk_before s i ws os pops) after old new q q') bytes.now reported on.0) (sym is) adds in
+    (transition i.number page_size k (desk_before s i ws os pops) after old new q q') bytes.now reported on.0) (sym is) adds in
     popped s i page_size k q q' ws os pops push old new (record (pops k) { loaded = on.0 }) reported
-    (λ es d. Reports (turn i.number page_size k (desk_before s i ws os pops) d old new q q') (does.Pop bytes) u
+    (λ es d. Reports (transition i.number page_size k (desk_before s i ws os pops) d old new q q') (does.Pop bytes) u
     (gives.Popped (Ok (outcomes.On reported))) es)
     all there (ap is_out is) same may.1
     (λ after os' loads' es reports.

@@ -10,7 +10,7 @@ use Rattle.fs_chain.specs.Together.{Owned, Together, with_handle}
 use Rattle.fs_chain.specs.declared.chain_handle.ChainHandle.{ChainHandle}
 use Rattle.fs_chain.specs.declared.queue.QueueState.{QueueState}
 use Rattle.fs_driven.specs.Desks.{Begun, Desk, Driven, FitsRun, In, IsReady, LeadsBy, desk, own, with_pop, with_push, with_queue}
-use Rattle.fs_driven.specs.Reported.{DrivesOne, Reports, Unseen, turn}
+use Rattle.fs_driven.specs.Reported.{DrivesOne, Reports, Unseen, transition}
 use Rattle.fs_driven.specs.declared.commands.Command.{Command}
 use Rattle.fs_driven.specs.declared.commands.Returned.{Returned}
 
@@ -88,7 +88,7 @@ DrivesAt page_size w new q q' command returned =
     (u : Unseen) (s : Machine) (i : Spot) (os : List Owned) (pops : ℕ → Pop) (push : Option Begun) →
     DrivenAt s i page_size k q ws os pops push →
     LeadsAt s i page_size k pops q' (with_handle ws k new)
-    (λ es d. Reports (turn i.number page_size k (desk_before s i ws os pops) d w new q q') command u returned es)
+    (λ es d. Reports (transition i.number page_size k (desk_before s i ws os pops) d w new q q') command u returned es)
 
 pub drives_one : {page_size : ℕ} {w new : ChainHandle} {q q' : QueueState} (command : Command)
     (returned : Returned) → DrivesAt page_size w new q q' command returned

@@ -113,7 +113,7 @@ data_of _ u = []
 
 -- a call of handle `handle`, for queue `queue` of the run: the desk before and after it, the handle, and the
 -- queue
-pub record Turn : Type 0 where
+pub record Transition : Type 0 where
   pub queue : ℕ
   pub page_size : ℕ
   pub handle : ℕ
@@ -124,8 +124,9 @@ pub record Turn : Type 0 where
   pub before : QueueState
   pub after : QueueState
 
-abbrev pub turn : (i page_size k : ℕ) → (d d' : Desk) → (w w' : ChainHandle) → (q q' : QueueState) → Turn
-turn i page_size k d d' w w' q q' =
+abbrev pub transition : (i page_size k : ℕ) → (d d' : Desk) → (w w' : ChainHandle) →
+    (q q' : QueueState) → Transition
+transition i page_size k d d' w w' q q' =
     record {
       queue = i;
       page_size = page_size;
@@ -139,19 +140,19 @@ turn i page_size k d d' w w' q q' =
     }
 
 -- the handle's pop has the loads that it had
-abbrev pub KeepsPop : Turn → Type 0
+abbrev pub KeepsPop : Transition → Type 0
 KeepsPop t = t.new.pops t.handle ≡ t.old.pops t.handle
 
 -- a refused call changes neither its handle nor the queue
-abbrev pub ChangesNothing : Turn → Type 0
+abbrev pub ChangesNothing : Transition → Type 0
 ChangesNothing t = IsSame t.was t.now × (t.after ≡ t.before) × KeepsPop t
 
 -- nor does a call that isn't made
-abbrev pub IsNotMade : Turn → Type 0
+abbrev pub IsNotMade : Transition → Type 0
 IsNotMade t = (t.now ≡ t.was) × (t.after ≡ t.before) × KeepsPop t
 
 -- of the handle only the chain's state and the session change, and the queue stays
-abbrev pub ChangesSession : Turn → Type 0
+abbrev pub ChangesSession : Transition → Type 0
 ChangesSession t =
     (IsAllBut t.was t.now × (t.now.descriptors ≡ t.was.descriptors) × (t.now.part ≡ t.was.part))
     × (t.after ≡ t.before)
@@ -160,7 +161,7 @@ ChangesSession t =
 
 -- the loads of a pop, by the state of its handle: none as it begins; with these bytes, if it goes on and
 -- the queue isn't stopped
-abbrev pub IsLoadedBy : state.ChainState → Turn → (bytes : List ℕ) → walked.PopOutcome → Loaded → Type 0
+abbrev pub IsLoadedBy : state.ChainState → Transition → (bytes : List ℕ) → walked.PopOutcome → Loaded → Type 0
 IsLoadedBy at.Free t bytes reported loaded = loaded ≡ nothing
 IsLoadedBy st t bytes reported loaded =
     t.before.stopped ≡ None →
@@ -168,7 +169,7 @@ IsLoadedBy st t bytes reported loaded =
     loaded
 
 -- the events of a pop's call with this result, after these loads
-abbrev pub PopReports : Turn → Loaded → walked.PopOutcome → List LiveEvent → Type 0
+abbrev pub PopReports : Transition → Loaded → walked.PopOutcome → List LiveEvent → Type 0
 PopReports t loaded (shows.Load n) es = (es ≡ []) × ((t.new.pops t.handle).loaded ≡ loaded)
 PopReports t loaded (shows.Missing range access) es = es ≡ []
 PopReports t loaded shows.Idle es = es ≡ EndsPop t.queue loaded t.now.descriptors.items step.Idle ∷ []
@@ -182,7 +183,7 @@ PopReports t loaded (shows.Chain head request_len room_len) es =
 PopReports t loaded (shows.Faulty head fault) es =
     es ≡ EndsPop t.queue loaded t.now.descriptors.items (step.Chain head (Some fault)) ∷ []
 
-abbrev pub ReportsPop : Turn → (bytes : List ℕ) → Result outcome.LoadOutcome ChainError → List LiveEvent
+abbrev pub ReportsPop : Transition → (bytes : List ℕ) → Result outcome.LoadOutcome ChainError → List LiveEvent
     → Type 0
 ReportsPop t bytes (Err e) es = (es ≡ []) × ChangesNothing t × RefusesWalk t.was t.before bytes e
 ReportsPop t bytes (Ok outcomes.Part) es =
@@ -194,7 +195,7 @@ ReportsPop t bytes (Ok (outcomes.On reported)) es =
     × PopReports t loaded reported es
 
 -- a pop by loads ahead has the loads that it took of them
-abbrev pub ReportsAhead : Turn → List AheadBytes → Result walked.PopOutcome ChainError → List LiveEvent
+abbrev pub ReportsAhead : Transition → List AheadBytes → Result walked.PopOutcome ChainError → List LiveEvent
     → Type 0
 ReportsAhead t ahead (Err e) es =
     (es ≡ []) × ChangesNothing t × (ahead_error t.was.state t.before ≡ Some e)
@@ -212,7 +213,7 @@ abbrev pub setting_of : (options now : ℕ) → List LiveEvent
 setting_of options now = if options == now then [] else SetsOptions options ∷ []
 
 -- the events of a decoding with this result: none if it needs more bytes
-abbrev pub DecodeReports : Turn → Session → (request : List ℕ) → Decoded → List LiveEvent → Type 0
+abbrev pub DecodeReports : Transition → Session → (request : List ℕ) → Decoded → List LiveEvent → Type 0
 DecodeReports t session request (asks.More n) es = es ≡ []
 DecodeReports t session request reported es =
     (c : InFlightChain)
@@ -221,7 +222,7 @@ DecodeReports t session request reported es =
     ++ DecodesRequest c request (calls_decoded (drop 80 request) reported) ∷ [])
     × In (own t.handle (asked_chain c request session.options.0 [])) t.new.owned
 
-abbrev pub ReportsDecode : Turn → Session → (front : List ℕ) → Unseen → Result Decoded ChainError →
+abbrev pub ReportsDecode : Transition → Session → (front : List ℕ) → Unseen → Result Decoded ChainError →
     List LiveEvent → Type 0
 ReportsDecode t session front u (Err e) es =
     (es ≡ []) × ChangesNothing t × (ask_error t.was.state (length front) ≡ Some e)
@@ -240,8 +241,8 @@ abbrev pub forgetting : InFlightChain → Option (Context × ℕ) → List LiveE
 forgetting c None = []
 forgetting c (Some node) = ReceivesAnswer c (Forget node.0 node.1 1) Done ∷ []
 
-abbrev pub ReportsAnswer : Turn → (serial : ℕ) → made_answer.FileAnswer → Unseen → Result Replied ChainError →
-    List LiveEvent → Type 0
+abbrev pub ReportsAnswer : Transition → (serial : ℕ) → made_answer.FileAnswer → Unseen →
+    Result Replied ChainError → List LiveEvent → Type 0
 ReportsAnswer t serial answer u (Err e) es =
     (es ≡ []) × ChangesNothing t × IsNotTaken t.was serial answer e
 ReportsAnswer t serial answer u (Ok reported) es =
@@ -265,8 +266,8 @@ abbrev pub replied_to : Phase → Unseen → (len : ℕ) → List ℕ
 replied_to (Asked request options calls) u len = request
 replied_to phase u len = exactly len u.request
 
-abbrev pub ReportsReply : Turn → (serial len : ℕ) → Unseen → Result (Unit {0}) ChainError → List LiveEvent →
-    Type 0
+abbrev pub ReportsReply : Transition → (serial len : ℕ) → Unseen → Result (Unit {0}) ChainError →
+    List LiveEvent → Type 0
 ReportsReply t serial len u (Err e) es =
     (es ≡ []) × ChangesNothing t × (own_error t.was.state t.was.serial serial len ≡ Some e)
 ReportsReply t serial len u (Ok done) es =
@@ -279,7 +280,7 @@ ReportsReply t serial len u (Ok done) es =
     t.old.run.options ∷ [])
 
 -- a listing to which no entry was added ends, by this answer to the reading of its directory
-abbrev pub ReportsListing : Turn → (serial : ℕ) → FileAnswer → (Result ℕ ChainError → Type 0) →
+abbrev pub ReportsListing : Transition → (serial : ℕ) → FileAnswer → (Result ℕ ChainError → Type 0) →
     Result ℕ ChainError → List LiveEvent → Type 0
 ReportsListing t serial answer Replies (Err e) es =
     (es ≡ [])
@@ -307,9 +308,9 @@ RefusesEntries was now serial list (entry ∷ entries) names failure last e =
 
 -- entries were brought to a listing, and it ended: its calls are answered now. The first bytes of the list
 -- are behind the reply's front
-abbrev pub GatherReports : Turn → (serial : ℕ) → List ListedEntry → (names : List ℕ) → (failure : Option ℕ) →
-    (added : ℕ) →
-    (last : Result Added ChainError) → Result ℕ ChainError → (list : List ℕ) → List LiveEvent → Type 0
+abbrev pub GatherReports : Transition → (serial : ℕ) → List ListedEntry → (names : List ℕ) →
+    (failure : Option ℕ) → (added : ℕ) → (last : Result Added ChainError) → Result ℕ ChainError →
+    (list : List ℕ) → List LiveEvent → Type 0
 GatherReports t serial entries names failure added last (Err e) list es =
     (es ≡ [])
     × (added ≡ 0)
@@ -344,7 +345,8 @@ GatherReports t serial entries names failure added last (Ok len) list es =
 -- ---- pushes, and chains that are given up
 
 -- a push begins: no event yet, but its stores are kept
-abbrev pub ReportsPush : Turn → Result PushStores ChainError → (front : List ℕ) → List LiveEvent → Type 0
+abbrev pub ReportsPush : Transition → Result PushStores ChainError → (front : List ℕ) → List LiveEvent →
+    Type 0
 ReportsPush t (Err e) front es =
     (es ≡ [])
     × ChangesNothing t
@@ -359,7 +361,8 @@ ReportsPush t (Ok stores) front es =
     × (t.new.pushes t.queue ≡ Some (record { handle = t.handle; stores = stores; front = front }))
 
 -- a push ends: its stores are those that its begin returned, and its reply begins with that front
-abbrev pub ReportsPushed : Turn → (seen : List ℕ) → Unseen → Result Bool ChainError → List LiveEvent → Type 0
+abbrev pub ReportsPushed : Transition → (seen : List ℕ) → Unseen → Result Bool ChainError →
+    List LiveEvent → Type 0
 ReportsPushed t seen u (Err e) es =
     (es ≡ []) × ChangesNothing t × (end_error t.was.state t.before ≡ Some e)
 ReportsPushed t seen u (Ok notice) es =
@@ -374,11 +377,11 @@ ReportsPushed t seen u (Ok notice) es =
     × (t.now ≡ freed t.was)
     × (t.after ≡ gave t.before)
 
-abbrev pub GiveUpReports : Turn → (is_out : Bool) → List LiveEvent → Type 0
+abbrev pub GiveUpReports : Transition → (is_out : Bool) → List LiveEvent → Type 0
 GiveUpReports t false es = es ≡ []
 GiveUpReports t true es = (c : InFlightChain) × In (own t.handle c) t.old.owned × (es ≡ GivesUpChain c ∷ [])
 
-abbrev pub ReportsGiveUp : Turn → Result (Unit {0}) ChainError → List LiveEvent → Type 0
+abbrev pub ReportsGiveUp : Transition → Result (Unit {0}) ChainError → List LiveEvent → Type 0
 ReportsGiveUp t (Err e) es =
     (es ≡ []) × ChangesNothing t × (give_up_error t.was.state t.before ≡ Some e)
 ReportsGiveUp t (Ok done) es =
@@ -388,7 +391,7 @@ ReportsGiveUp t (Ok done) es =
     × GiveUpReports t (is_out t.was.state) es
 
 -- a handle is freed: its chain stays in flight, without a handle
-abbrev pub AbandonReports : Turn → (is_out : Bool) → List LiveEvent → Type 0
+abbrev pub AbandonReports : Transition → (is_out : Bool) → List LiveEvent → Type 0
 AbandonReports t false es = es ≡ []
 AbandonReports t true es =
     (c : InFlightChain)
@@ -396,7 +399,7 @@ AbandonReports t true es =
     × (es ≡ Abandons c ∷ [])
     × In (lost (abandoned_chain c)) t.new.owned
 
-abbrev pub ReportsAbandon : Turn → List LiveEvent → Type 0
+abbrev pub ReportsAbandon : Transition → List LiveEvent → Type 0
 ReportsAbandon t es =
     IsFreed t.was t.now × (t.after ≡ t.before) × AbandonReports t (is_out t.was.state) es
 
@@ -404,7 +407,7 @@ ReportsAbandon t es =
 
 -- the events of a command of a handle, by what it returned. A request isn't decoded in a session of another
 -- page size, and a call of the queue is none of a handle
-abbrev pub Reports : Turn → Command → Unseen → Returned → List LiveEvent → Type 0
+abbrev pub Reports : Transition → Command → Unseen → Returned → List LiveEvent → Type 0
 Reports t (does.Pop bytes) u (gives.Popped r) es = ReportsPop t bytes.now r es
 Reports t (does.PopAhead ahead bytes) u (gives.PoppedAhead r) es =
     ReportsAhead t (loads_ahead ahead.now bytes.now) r es
@@ -440,7 +443,8 @@ DrivesOne page_size w new q q' command returned =
     (u : Unseen) (s : Machine) (os : List Owned) (pops : ℕ → Pop) (pushes : ℕ → Option Begun) →
     Driven s on page_size qs ws os pops pushes →
     LeadsBy s on page_size (with_queue qs i q') (with_handle ws k new) k pops i pushes
-    (λ es d. Reports (turn i page_size k (desk s ws qs os pops pushes) d w new q q') command u returned es)
+    (λ es d. Reports (transition i page_size k (desk s ws qs os pops pushes) d w new q q') command u returned
+    es)
 
 -- no handle of queue i has a chain in flight
 abbrev pub HaveNoChain : (on : List ℕ) → (i : ℕ) → List ChainHandle → Type 0
@@ -530,7 +534,7 @@ pub record IsCallOf (on : List ℕ) (page_size : ℕ) (d d' : Desk) (k : ℕ) (c
   pub pops : d'.pops ≡ with_pop d.pops k pop
   pub push : Option Begun
   pub pushes : d'.pushes ≡ with_push d.pushes queue push
-  pub reports : Reports (turn queue page_size k d d' was now before after) command u returned es
+  pub reports : Reports (transition queue page_size k d d' was now before after) command u returned es
 
 -- the events of a call of one of the handles, of none if there is no such handle, or of a queue
 abbrev pub ReportsCall : (on : List ℕ) → (page_size : ℕ) → (d d' : Desk) → Called → Unseen →
