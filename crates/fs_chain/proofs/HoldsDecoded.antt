@@ -20,7 +20,7 @@ use Rattle.live_machine.specs.Live.{DecodesRequest, Fetched, Happens, InFlightCh
 use Rattle.live_machine.specs.Live.{room_of_phase}
 use Rattle.live_machine.proofs.Queues.{none_some}
 use Rattle.fs_chain.specs.Decoding.{IfUndecoded, KeepsCall, KeepsReply, ReportsMeaning, asked_of}
-use Rattle.fs_chain.specs.Holds.{any_files, Decodes, DecodingIs, HoldsChain, IsDecodedIn, IsHeldIn, IsOutAs, KeepsReplyOf, Machine}
+use Rattle.fs_chain.specs.Holds.{any_files, Decodes, DecodingIs, IsDecodedIn, IsHeldIn, IsOutAs, IsUnanswered, KeepsReplyOf, Machine}
 use Rattle.fs_chain.specs.Holds.{calls_decoded}
 use Rattle.fs_chain.specs.Orders.{ask_error, front_in, front_len, front_of, reply_len}
 use Rattle.fs_chain.specs.Walks.{no_reply}
@@ -73,6 +73,7 @@ DecodedSo page_size options request c out made st session =
     (calls_decoded (drop 80 request) made ≡ (served (setting page_size options out.room_len) (meaning options request out.room_len)
     []).calls)
     × IsHeldIn page_size (asked_chain c request options []) (asked_chain c request options []).phase st session
+    × IsUnanswered (asked_chain c request options []).phase st
 
 list_command : (l : Listing) (room : ℕ) (command : FileCommand) → IsListingFor l room command →
     (unique : ℕ) × (a : ListRequest) × (command ≡ Lists unique a) × IsListingFor l room (Lists unique a)
@@ -105,6 +106,7 @@ by_call page_size options request c out made (at.Waits preserved w) session is_o
         a,
         keeps.2,
       ),
+      refl,
     )
 by_call page_size options request c out made (at.Lists preserved l) session is_out decoded keeps =
     let a = keeps.1 in
@@ -131,6 +133,7 @@ by_call page_size options request c out made (at.Lists preserved l) session is_o
         [],
         record { long = a.5; stands = ap (λ (n : ℕ). take n []) a.5 },
       ),
+      (refl, a.5),
     )
 by_call page_size options request c out made st session is_out decoded keeps = absurd keeps
 
@@ -182,7 +185,8 @@ by_reply : (page_size options : ℕ) (request : List ℕ) (c : InFlightChain) (o
     → KeepsReply (setting page_size options out.room_len) (meaning options request out.room_len) (drop 80 request) out st
     → DecodedSo page_size options request c out asks.Nothing st session
 by_reply page_size options request c out (at.HasReply preserved reply) session is_out keeps =
-    by_front page_size options request c out preserved reply session reply.front is_out keeps.0 keeps.1 refl keeps.2
+    let so = by_front page_size options request c out preserved reply session reply.front is_out keeps.0 keeps.1 refl keeps.2 in
+    (so.0, so.1, refl)
 by_reply page_size options request c out st session is_out keeps = absurd keeps
 
 -- ---- the result
@@ -220,16 +224,19 @@ by_reported s before behind c request out new (asks.More n) is fresh is_out sess
     subst P (sym reports) (subst Q (sym fresh) is_out)
 by_reported s before behind c request out new (asks.Call made) is fresh is_out session len reports =
     let so = by_call s.page_size s.options request c out made new.state new.session is_out session reports in
-    (decoded_event s before behind c request out (asks.Call made) is fresh is_out len so.0, so.1)
+    (decoded_event s before behind c request out (asks.Call made) is fresh is_out len so.0, (so.1, so.2))
 by_reported s before behind c request out new asks.Nothing is fresh is_out session len reports =
     let so = by_reply s.page_size s.options request c out new.state new.session is_out reports in
-    (decoded_event s before behind c request out asks.Nothing is fresh is_out len so.0, so.1)
+    (decoded_event s before behind c request out asks.Nothing is fresh is_out len so.0, (so.1, so.2))
 by_reported s before behind c request out new (asks.Fault e) is fresh is_out session len reports =
     let so = known s.page_size s.options request c out out no_reply new.session
     (serving_words.no_reply [] s.options (Some e)) is_out refl refl reports.1 refl refl in (
       decoded_event s before behind c request out (asks.Fault e) is fresh is_out len so.0,
-      subst (λ (st : state.ChainState). IsHeldIn s.page_size (asked_chain c request s.options [])
-          (asked_chain c request s.options []).phase st new.session) (sym reports.0) so.1,
+      (
+        subst (λ (st : state.ChainState). IsHeldIn s.page_size (asked_chain c request s.options [])
+            (asked_chain c request s.options []).phase st new.session) (sym reports.0) so.1,
+        subst (λ (st : state.ChainState). IsUnanswered (asked_chain c request s.options []).phase st) (sym reports.0) refl,
+      ),
     )
 
 taken_phase : (page_size : ℕ) (c : InFlightChain) (p : Phase) (out : InFlight) (session : Session) →

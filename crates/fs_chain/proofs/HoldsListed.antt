@@ -1,23 +1,24 @@
 -- A listing that the handle gathers: its entries, its file calls, and its end.
-use Rattle.std.proofs.Common.{◌≡◌, ◌+◌, ℕ, List, [], ◌∷◌, ◌++◌, length, take, Some, Result, Ok, Err}
+use Rattle.std.proofs.Common.{◌≡◌, ◌+◌, ℕ, Bool, true, false, List, [], ◌∷◌, ◌++◌, length, take, Some, Result, Ok, Err}
 use Rattle.std.proofs.Common.{refl, subst, sym, ap, ◌∙◌, inl, inr, length-append}
 use Rattle.std.specs.Prelude.{IsTrue, IfOk}
+use Rattle.fs_queue.specs.Taking.{addresses_of, writable}
 use Rattle.fuse_fs.specs.Calls.{FileAnswer, FileCall, suits, Entries}
-use Rattle.virtiofsd_fuse.specs.Grammar.{Asks, Lists, Meaning, meaning}
+use Rattle.virtiofsd_fuse.specs.Grammar.{Asks, FileCommand, Lists, Meaning, meaning}
 use Rattle.virtiofsd_fuse.specs.Listings.{ListRequest, readdir_call}
 use Rattle.virtiofsd_fuse.specs.Serving.{Setting, ServedMessage, commanded, served, setting}
 use Rattle.virtiofsd_fuse.proofs.Serve.{served_fits}
 use Rattle.server_replies.specs.WholeReplies.{listing_bytes}
 use Rattle.server_phases.specs.Gathering.{Brought, Holds, IsListingFor, StaysBut, added_found, added_plain, all_bytes, all_found}
-use Rattle.server_phases.specs.Gathering.{entries_of}
+use Rattle.server_phases.specs.Gathering.{entries_of, is_list_command}
 use Rattle.server_phases.specs.declared.listing.Listing.{Listing}
 use Rattle.server_phases.specs.declared.listing.ListingReply.{ListingReply}
 use Rattle.plain_machine.specs.Step.{Calls, answers_alone, calls_alone}
 use Rattle.live_machine.specs.Live.{Asked, InFlightChain, Phase, room_of, room_of_phase}
 use Rattle.live_machine.proofs.EachCall.{each_waits_first}
-use Rattle.fs_chain.specs.Holds.{IsDecodedIn, IsHeldIn, IsPastFirstCall, KeepsReplyOf, Machine, served_so}
+use Rattle.fs_chain.specs.Holds.{IsDecodedIn, IsHeldIn, IsPastFirstCall, IsUnanswered, KeepsReplyOf, Machine, served_so}
 use Rattle.fs_chain.specs.HoldsListings.{AddingIs, AddsEntry, BeginsListing, EndsListing, FailsListing, HasListed, HoldsListing, IsLeftOut}
-use Rattle.fs_chain.specs.HoldsListings.{LeavesOut, ListingIsHeld}
+use Rattle.fs_chain.specs.HoldsListings.{GathersDecoded, LeavesOut, ListingIsHeld}
 use Rattle.fs_chain.specs.HoldsListings.{ListingCallIs, LooksUp, MayEnd, MayFail, ReadsDirectory, calls_left_out}
 use Rattle.fs_chain.specs.Listings.{AddsTo, EndsByEntries, EndsByError, IsFailedReply, IsListReply, RepliesBy, answered_by}
 use Rattle.fs_chain.specs.Orders.{front_len}
@@ -236,26 +237,71 @@ fails_listing errno old new len ends page_size c es ending calls list h may is =
 
 -- ---- the file calls
 
-pub begins_listing : BeginsListing
-begins_listing page_size c w out l request list options is empty phase held =
-    let here : IsHeldIn page_size c (Asked request options []) (at.Lists out l) w.session =
-    subst (λ (p : Phase). IsHeldIn page_size c p (at.Lists out l) w.session) phase
-    (subst (λ (st : state.ChainState). IsHeldIn page_size c c.phase st w.session) is held) in
+begun_in : (page_size : ℕ) (c : InFlightChain) (p : Phase) (w : ChainHandle) (out : InFlight) (l : Listing) (list : List ℕ) → c.phase ≡ p
+    → w.state ≡ at.Lists out l → IsHeldIn page_size c p (at.Lists out l) w.session → IsUnanswered p (at.Lists out l)
+    → HoldsListing page_size c [] [] list w
+begun_in page_size c (Asked request options calls) w out l list phase is held fresh =
     record {
       out = out;
       listing = l;
       state = is;
-      is_out = here.0;
+      is_out = held.0;
       request = request;
       options = options;
-      session = here.1;
-      unique = here.2;
-      asked = here.3;
-      means = here.4;
-      is_for = here.5;
-      holds = record { long = empty; stands = ap (λ (n : ℕ). take n list) empty };
-      phase = phase;
+      session = held.1;
+      unique = held.2;
+      asked = held.3;
+      means = held.4;
+      is_for = held.5;
+      holds = record { long = fresh.1; stands = ap (λ (n : ℕ). take n list) fresh.1 };
+      phase = phase ∙ ap (λ (l : Calls). Asked request options l) fresh.0;
     }
+begun_in page_size c p w out l list phase is held fresh = absurd fresh
+
+pub begins_listing : BeginsListing
+begins_listing page_size c w out l list is held =
+    begun_in page_size c c.phase w out l list refl is
+    (subst (λ (st : state.ChainState). IsHeldIn page_size c c.phase st w.session) is held.0)
+    (subst (λ (st : state.ChainState). IsUnanswered c.phase st) is held.1)
+
+-- a request that asks for a listing has a first call, which waits for no other answer
+abbrev is_listing : Meaning → Bool
+is_listing (Asks command) = is_list_command command
+is_listing m = false
+
+none_waits : (m : Meaning) (unique : ℕ) (asked : ListRequest) (command : FileCommand) → m ≡ Asks (Lists unique asked) → m ≡ Asks command
+    → is_list_command command ≡ false → ⊥
+none_waits m unique asked command lists is other =
+    let clash : true ≡ false = ap is_listing (sym lists ∙ is) ∙ other in absurd (cc)
+
+has_call : (page_size options : ℕ) (request : List ℕ) (room unique : ℕ) (asked : ListRequest)
+    → meaning options request room ≡ Asks (Lists unique asked) → (served_so page_size options request room []).calls ≡ [] → ⊥
+has_call page_size options request room unique asked lists none =
+    let clash : readdir_call asked ∷ [] ≡ [] =
+    sym (ap (λ (m : Meaning). (served (setting page_size options room) m []).calls) lists) ∙ none in absurd (cc)
+
+gathered_in : (page_size options : ℕ) (c : InFlightChain) (w : ChainHandle) (request list : List ℕ) (unique : ℕ) (asked : ListRequest)
+    (st : state.ChainState) → w.state ≡ st → c.phase ≡ Asked request options []
+    → ((room : ℕ) → length (addresses_of (writable c.descriptors)) ≡ room → meaning options request room ≡ Asks (Lists unique asked))
+    → IsHeldIn page_size c (Asked request options []) st w.session → IsUnanswered (Asked request options []) st
+    → HoldsListing page_size c [] [] list w
+gathered_in page_size options c w request list unique asked (at.Lists out l) is phase means held fresh =
+    begun_in page_size c (Asked request options []) w out l list phase is held fresh
+gathered_in page_size options c w request list unique asked (at.Waits out waiting) is phase means held fresh =
+    absurd (none_waits (meaning options request out.room_len) unique asked held.4.0 (means out.room_len held.0.room_len) held.4.1
+    (held.5 held.4.0 held.4.4))
+gathered_in page_size options c w request list unique asked (at.HasReply out preserved) is phase means held fresh =
+    absurd (has_call page_size options request out.room_len unique asked (means out.room_len held.0.room_len) held.2)
+gathered_in page_size options c w request list unique asked (at.Pushing out) is phase means held fresh =
+    absurd (has_call page_size options request out.room_len unique asked (means out.room_len held.0.room_len) held.1)
+gathered_in page_size options c w request list unique asked st is phase means held fresh = absurd held
+
+pub gathers_decoded : GathersDecoded
+gathers_decoded page_size options c w request list unique asked phase means held =
+    gathered_in page_size options c w request list unique asked w.state refl phase
+    (λ room is. subst (λ (n : ℕ). meaning options request n ≡ Asks (Lists unique asked)) is means)
+    (subst (λ (p : Phase). IsHeldIn page_size c p w.state w.session) phase held.0)
+    (subst (λ (p : Phase). IsUnanswered p w.state) phase held.1)
 
 pub listing_is_held : ListingIsHeld
 listing_is_held page_size c es calls list w h =

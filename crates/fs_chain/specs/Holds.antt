@@ -150,6 +150,16 @@ IsHeldIn page_size c phase st session = ⊥
 abbrev pub HoldsChain : (page_size : ℕ) → InFlightChain → ChainHandle → Type 0
 HoldsChain page_size c w = IsHeldIn page_size c c.phase w.state w.session
 
+-- the request of a chain in this phase was decoded, and no call of it was answered. A listing has no entry
+abbrev pub IsUnanswered : Phase → state.ChainState → Type 0
+IsUnanswered (Asked request options calls) (at.Lists out listing) = (calls ≡ []) × (listing.len ≡ 0)
+IsUnanswered (Asked request options calls) st = calls ≡ []
+IsUnanswered phase st = ⊥
+
+-- a handle holds such a chain
+abbrev pub HoldsUnanswered : (page_size : ℕ) → InFlightChain → ChainHandle → Type 0
+HoldsUnanswered page_size c w = HoldsChain page_size c w × IsUnanswered c.phase w.state
+
 -- ---- a pop in a handle
 
 -- a pop that hasn't ended: its loads so far, and whether its queue had the event index when it began
@@ -201,7 +211,7 @@ DecodingIs s before behind c request new (asks.More n) = HoldsChain s.page_size 
 DecodingIs s before behind c request new reported =
     Happens any_files s (DecodesRequest c request (calls_decoded (drop 80 request) reported))
     (after_decoding s before behind c request)
-    × HoldsChain s.page_size (asked_chain c request s.options []) new
+    × HoldsUnanswered s.page_size (asked_chain c request s.options []) new
 
 -- so it is in each state of a run in which the handle has the chain, if the session is the run's
 unfoldable pub Decodes : (old new : ChainHandle) → Session → (front : List ℕ) → Decoded → Type 0

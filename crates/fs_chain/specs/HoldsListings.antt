@@ -13,7 +13,8 @@ use Rattle.server_phases.specs.Gathering as gathering
 use Rattle.server_phases.specs.declared.listing.Listing.{Listing}
 use Rattle.plain_machine.specs.Step.{Calls, calls_alone}
 use Rattle.live_machine.specs.Live.{Asked, Happens, InFlightChain, ReceivesAnswer, after_answer, asked_chain}
-use Rattle.fs_chain.specs.Holds.{HoldsChain, IsDecodedIn, IsOutAs, Machine, any_files, served_so}
+use Rattle.fs_chain.specs.Holds.{HoldsChain, HoldsUnanswered, IsDecodedIn, IsOutAs, Machine, any_files}
+use Rattle.fs_chain.specs.Holds.{served_so}
 use Rattle.fs_chain.specs.Orders.{front_of}
 use Rattle.fs_chain.specs.ListingCalls.{Ending, EndsThere, FailsAt, FullAt, NotFound, Unreadable}
 use Rattle.fs_chain.specs.ListingCalls.{calls_so_far}
@@ -117,15 +118,24 @@ FailsListing errno old new len =
 
 -- ---- the file calls
 
--- a handle that decoded a listing gathers it, in any list
+-- a handle with a listing of which no call was answered gathers it, in any list
 abbrev pub BeginsListing : Type 0
 BeginsListing =
     (page_size : ℕ) (c : InFlightChain) (w : ChainHandle) (out : InFlight) (listing : Listing)
-    (request list : List ℕ) (options : ℕ) →
+    (list : List ℕ) →
     w.state ≡ at.Lists out listing →
-    listing.len ≡ 0 →
+    HoldsUnanswered page_size c w →
+    HoldsListing page_size c [] [] list w
+
+-- so does one that decoded a request that asks for a listing
+abbrev pub GathersDecoded : Type 0
+GathersDecoded =
+    (page_size options : ℕ) (c : InFlightChain) (w : ChainHandle) (request list : List ℕ) (unique : ℕ)
+    (asked : ListRequest) →
     c.phase ≡ Asked request options [] →
-    HoldsChain page_size c w →
+    meaning options request (length (addresses_of (writable c.descriptors)))
+    ≡ grammar.Asks (Lists unique asked) →
+    HoldsUnanswered page_size c w →
     HoldsListing page_size c [] [] list w
 
 -- one that gathers a listing holds its chain, as among several handles

@@ -1,8 +1,8 @@
 //! Theorems about the definitions, as contracts of functions that do nothing.
 
 ghost use Rattle.fs_chain.specs.Held.{AskedIsMapped, HeldIsUnreplied, LoadsAreFew, LoadsCount};
-ghost use Rattle.fs_chain.specs.HoldsListings.{BeginsListing, LeavesOut, ListingIsHeld, LooksUp};
-ghost use Rattle.fs_chain.specs.HoldsListings.{ReadsDirectory};
+ghost use Rattle.fs_chain.specs.HoldsListings.{BeginsListing, GathersDecoded, LeavesOut, ListingIsHeld};
+ghost use Rattle.fs_chain.specs.HoldsListings.{LooksUp, ReadsDirectory};
 ghost use Rattle.fs_chain.specs.Laws.{WalksAreOffers};
 ghost use Rattle.fs_chain.specs.Together.{FindsOwn, JoinsOthers, KeepsOthers, LeavesOthers};
 
@@ -36,11 +36,12 @@ pub fn law_held()
     ensures unreplied { HeldIsUnreplied }
 {}
 
-/// The file calls of a listing that a handle gathers, whose chain it holds until the end. Each is answered
-/// without the handle, which holds the same afterwards: the reading of the directory, the look-ups of its
-/// entries, and the FORGET of an entry that isn't added.
+/// A handle that decoded a request for a listing gathers it, and holds its chain until the end. Each file
+/// call is answered without the handle, which holds the same afterwards: the reading of the directory, the
+/// look-ups of its entries, and the FORGET of an entry that isn't added.
 pub fn law_listings()
     ensures begins { BeginsListing }
+    ensures decoded { GathersDecoded }
     ensures held { ListingIsHeld }
     ensures reads { ReadsDirectory }
     ensures looks_up { LooksUp }

@@ -27,7 +27,7 @@ use Rattle.fs_driven.specs.Reported.{DrivesOne, Reports, Unseen, exactly}
 use Rattle.fs_driven.specs.Reported.{transition}
 use Rattle.fs_driven.specs.Preserved.{IsSameHeld, KeepsMemory}
 use Rattle.fs_chain.specs.Holds.{HoldsChain, IsRepliedWith}
-use Rattle.fs_chain.specs.Holds.{HoldsPop, IsHeldIn, IsOutAs, IsQueue}
+use Rattle.fs_chain.specs.Holds.{HoldsPop, IsHeldIn, IsOutAs, IsQueue, IsUnanswered}
 use Rattle.fs_chain.specs.Holds.{Machine, Pop}
 use Rattle.fs_chain.specs.Holds.{live_of, queue_with}
 use Rattle.fs_chain.specs.Loads.{IsSame}
@@ -278,13 +278,12 @@ done_ready page_size k q push c request options calls _ done quiet = tt
 
 pub call_waits : (page_size k : ℕ) (q : QueueState) (push : Option Begun) (c : InFlightChain) (request : List ℕ)
     (options : ℕ) (s : Setting) (m : Meaning) (bytes : List ℕ) (made : made_call.FileCall) (out : InFlight)
-    (st : state.ChainState) → KeepsCall s m bytes made out st
+    (st : state.ChainState) → KeepsCall s m bytes made out st → IsUnanswered (Asked request options []) st
     → IsReady page_size k q push (asked_chain c request options []) st
-call_waits page_size k q push c request options s m bytes made out (at.HasReply o preserved) keeps = absurd keeps
-call_waits page_size k q push c request options s m bytes made out (at.Pushing o) keeps = absurd keeps
-call_waits page_size k q push c request options s m bytes made out (at.Lists o l) keeps =
-    (keeps.1.5, request, options, refl)
-call_waits page_size k q push c request options s m bytes made out _ keeps = tt
+call_waits page_size k q push c request options s m bytes made out (at.HasReply o preserved) keeps fresh = absurd keeps
+call_waits page_size k q push c request options s m bytes made out (at.Pushing o) keeps fresh = absurd keeps
+call_waits page_size k q push c request options s m bytes made out (at.Lists o l) keeps fresh = fresh
+call_waits page_size k q push c request options s m bytes made out _ keeps fresh = tt
 
 -- ---- small lemmas
 

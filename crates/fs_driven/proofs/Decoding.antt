@@ -26,7 +26,7 @@ use Rattle.fs_driven.specs.Desks.{Begun, Desk, FitsRun, In, IsReady, own, with_p
 use Rattle.fs_driven.specs.Reported.{DrivesOne, Reports, Unseen, asked_len_of, exactly}
 use Rattle.fs_driven.specs.Reported.{request_of, setting_of, transition}
 use Rattle.fs_driven.specs.Preserved.{KeepsMemory}
-use Rattle.fs_chain.specs.Holds.{Decodes, DecodingIs, HoldsChain}
+use Rattle.fs_chain.specs.Holds.{Decodes, DecodingIs, HoldsChain, HoldsUnanswered}
 use Rattle.fs_chain.specs.Holds.{Machine, Pop}
 use Rattle.fs_chain.specs.Holds.{any_files, calls_decoded}
 use Rattle.fs_chain.specs.Orders.{ask_error, is_out}
@@ -83,7 +83,7 @@ decoded_so : (s : Machine) (i : Spot) (page_size k : ℕ) (q : QueueState) (ws :
     → Happens any_files (record s { options = options })
     (DecodesRequest c request (calls_decoded (drop 80 request) reported))
     (after_decoding (record s { options = options }) (chains_of ob) (chains_of oh) c request)
-    × HoldsChain s.page_size (asked_chain c request options []) new
+    × HoldsUnanswered s.page_size (asked_chain c request options []) new
     → IsReady page_size k q push (asked_chain c request options []) new.state
     → DecodedReports s i q (with_handle ws k new) k push c request options reported T
     → LeadsAt s i page_size k pops q (with_handle ws k new) T
@@ -101,7 +101,7 @@ decoded_so s i page_size k q ws ob oh pops push old new c request options report
       apart = λ j other. refl;
       event = refl;
       fits = fits_out s.places s.limit q (pops k) (pops k) old new same
-          (held_out s.page_size c' c'.phase new.state new.session proceeds.1) fits;
+          (held_out s.page_size c' c'.phase new.state new.session proceeds.1.0) fits;
       others = others_same page_size k q q push (λ head len. refl);
       still = all.still;
     } in (
@@ -113,7 +113,7 @@ decoded_so s i page_size k q ws ob oh pops push old new c request options report
       joined any_files s mid after (setting_of options s.options) (e ∷ []) (sets_run s options)
           (after, proceeds.0, refl),
       keeps s after i page_size q q ws ob oh k old new c c' (pops k) pops push push all there moves (λ n has. has) refl
-          proceeds.1 (queue, ready),
+          proceeds.1.0 (queue, ready),
       reports after (ob ++ own k c' ∷ oh) (with_pop pops k (pops k)) (here ob oh (own k c')),
     )
 
@@ -175,7 +175,7 @@ decoded_by s i page_size k q ws ob oh pops push old new c request options (asks.
     there queue fresh same fits proceeds chains means reports =
     decoded_so s i page_size k q ws ob oh pops push old new c request options (asks.Call made) T all there
     queue same fits proceeds
-    (call_waits page_size k q push c request options st m bytes made out new.state means)
+    (call_waits page_size k q push c request options st m bytes made out new.state means proceeds.1.1)
     reports
 decoded_by s i page_size k q ws ob oh pops push old new c request options asks.Nothing st m bytes out T all
     there queue fresh same fits proceeds chains means reports =

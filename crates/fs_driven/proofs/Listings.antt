@@ -8,7 +8,7 @@ use Rattle.server_phases.specs.declared.listing.Listing.{Listing}
 use Rattle.server_phases.specs.declared.listing.ListingReply.{ListingReply}
 use Rattle.virtiofsd_fuse.specs.Listings.{readdir_call}
 use Rattle.live_machine.specs.Live.{InFlightChain, ReceivesAnswer, after_answer, asked_chain}
-use Rattle.fs_chain.specs.Holds.{HoldsChain, Machine, Pop}
+use Rattle.fs_chain.specs.Holds.{HoldsChain, IsUnanswered, Machine, Pop}
 use Rattle.fs_chain.specs.HoldsListings.{EndsListing, FailsListing, HasListed, HoldsListing}
 use Rattle.fs_chain.specs.Listings.{EndsByEntries, EndsByError, RepliesBy}
 use Rattle.fs_chain.specs.Orders.{is_out}
@@ -100,7 +100,7 @@ pub begun_listing : (n page_size k : ℕ) (q : QueueState) (push : Option Begun)
 begun_listing n page_size k q push c w out l list is ready holds =
     let fresh : IsReady page_size k q push c (at.Lists out l) =
     subst (λ (st : state.ChainState). IsReady page_size k q push c st) is ready in
-    begins_listing n c w out l fresh.1 list fresh.2 is fresh.0 fresh.3 holds
+    begins_listing n c w out l list is (holds, subst (λ (st : state.ChainState). IsUnanswered c.phase st) (sym is) fresh)
 
 listing_drives : (page_size : ℕ) (old new : ChainHandle) (q : QueueState) (serial : ℕ) (answer : FileAnswer)
     (P : Result ℕ ChainError → Type 0) (len : ℕ)

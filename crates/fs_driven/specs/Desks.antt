@@ -10,8 +10,8 @@ use Rattle.fs_queue.specs.ReturningView.{stores_of}
 use Rattle.fs_regions.specs.Places.{places_in}
 use Rattle.plain_machine.specs.Step.{Exchange}
 use Rattle.live_machine.specs.Several.{LiveQueue, in_flight, returning}
-use Rattle.live_machine.specs.Live.{Abandoned, Asked, InFlightChain, LiveEvent, LiveRun, PushedWith}
-use Rattle.fs_chain.specs.Holds.{HoldsPop, IsPopOf, IsQueue, Machine, Pop, any_files, live_of}
+use Rattle.live_machine.specs.Live.{Abandoned, InFlightChain, LiveEvent, LiveRun, PushedWith}
+use Rattle.fs_chain.specs.Holds.{HoldsPop, IsPopOf, IsQueue, IsUnanswered, Machine, Pop, any_files, live_of}
 pub use Rattle.fs_chain.specs.Holds.{no_pop}
 use Rattle.fs_chain.specs.Orders.{is_out}
 use Rattle.fs_chain.specs.Together.{Owned, Together}
@@ -67,8 +67,7 @@ abbrev pub IsReady :
 IsReady page_size k q push c (at.HasReply out preserved) = (x : Exchange) × PushedWith page_size c c.phase x
 IsReady page_size k q push c (at.Pushing out) =
     (x : Exchange) × PushedWith page_size c c.phase x × IsUnderWay k q c x push
-IsReady page_size k q push c (at.Lists out listing) =
-    (listing.len ≡ 0) × (request : List ℕ) × (options : ℕ) × (c.phase ≡ Asked request options [])
+IsReady page_size k q push c (at.Lists out listing) = IsUnanswered c.phase (at.Lists out listing)
 IsReady page_size k q push c _ = Unit {0}
 
 -- a pop that is under way has these loads, which lead to it

@@ -1,4 +1,5 @@
 pub mod AmidListings
+pub mod BegunListings
 pub mod HeldPop
 pub mod InARowRun
 pub mod MissedEvent

@@ -1,8 +1,11 @@
-use Rattle.fs_chain.proofs.HoldsListed.{begins_listing, leaves_out, listing_is_held, looks_up, reads_directory}
+use Rattle.fs_chain.proofs.HoldsListed.{begins_listing, gathers_decoded, leaves_out, listing_is_held, looks_up, reads_directory}
 use Rattle.fs_chain.proofs.laws.law_listings.Goals as goal
 
 pub returns-clause-begins : goal.returns-clause-begins
 returns-clause-begins c = begins_listing
+
+pub returns-clause-decoded : goal.returns-clause-decoded
+returns-clause-decoded c = gathers_decoded
 
 pub returns-clause-held : goal.returns-clause-held
 returns-clause-held c = listing_is_held
