@@ -1,5 +1,9 @@
 -- Where the names, values and pairs of a call lie in its request.
-use Rattle.std.specs.Prelude.{◌≡◌, ℕ, ◌+◌, ◌⊎◌, All, List, [], ◌∷◌, ◌++◌, length, Option, Some, None}
+use Rattle.std.specs.Prelude.{◌≡◌, ℕ, zero, suc, ◌+◌, ◌<◌, ◌⊎◌, All, List, [], ◌∷◌, ◌++◌, length, take, drop}
+use Rattle.std.specs.Prelude.{Option, Some, None}
+use Rattle.fuse_in.specs.Shapes.{made}
+use Rattle.fuse_wire.specs.declared.others.ExtHeader.{ExtHeader}
+use Rattle.fuse_wire.specs.Records.{ext_header}
 use Rattle.fuse_values.specs.declared.placed.Placed.{Placed}
 use Rattle.fuse_values.specs.declared.received.Label.{Label}
 use Rattle.fuse_values.specs.declared.call.FileCall.{FileCall}
@@ -31,29 +35,59 @@ NameStandsAt request name offset = NameStandsIn request name × (name.at ≡ off
 abbrev pub LiesAtEither : Placed → Type 0
 LiesAtEither p = (p.at ≡ 48) ⊎ (p.at ≡ 56)
 
+-- the offset directly behind a name and its zero byte
+abbrev pub behind : (name : Placed) → ℕ
+behind name = name.at + (length name.bytes.now + 1)
+
 -- bytes lie directly behind a name and its zero byte
 abbrev pub IsBehind : (name : Placed) → Placed → Type 0
-IsBehind name bytes = bytes.at ≡ name.at + (length name.bytes.now + 1)
+IsBehind name bytes = bytes.at ≡ behind name
 
--- the name and the bytes of a label, if there is one, lie in the request, one behind the other
-abbrev pub LabelStandsIn : (request : List ℕ) → Option Label → Type 0
-LabelStandsIn request None = Unit {0}
-LabelStandsIn request (Some l) =
-    NameStandsIn request l.name × StandsIn request l.secctx × IsBehind l.name l.secctx
+-- the name of a label lies in the request at this offset, and its value lies directly behind it
+abbrev pub LabelStandsAt : (request : List ℕ) → Label → (offset : ℕ) → Type 0
+LabelStandsAt request l offset =
+    NameStandsAt request l.name offset × StandsIn request l.secctx × IsBehind l.name l.secctx
+
+-- the header of an extension (struct fuse_ext_header, 8 bytes) that lies in the request at an offset
+unfoldable pub extension_at : (request : List ℕ) → (offset : ℕ) → ExtHeader
+extension_at request offset = made ext_header.parts ext_header.make (take 8 (drop offset request))
+
+-- the offset of extension n: extension 0 begins at `start`, and each other one directly behind the
+-- one before, whose size counts its header
+unfoldable pub extension_start : (request : List ℕ) → (start n : ℕ) → ℕ
+extension_start request start zero = start
+extension_start request start (suc n) =
+    let before = extension_start request start n in before + (extension_at request before).size
+
+-- the type of extension n
+abbrev pub extension_type : (request : List ℕ) → (start n : ℕ) → ℕ
+extension_type request start n = (extension_at request (extension_start request start n)).ext_type
+
+-- extensions 0 to n - 1 have no label: none of them is of type 1, a security context that isn't empty
+unfoldable pub NoLabelBefore : (request : List ℕ) → (start n : ℕ) → Type 0
+NoLabelBefore request start n = (m : ℕ) → m < n → extension_type request start m ≡ 1 → ⊥
+
+-- a label, if there is one, lies in the first extension of type 1, behind its header (8 bytes) and
+-- its struct fuse_secctx (8 bytes)
+abbrev pub LabelStandsIn : (request : List ℕ) → (start : ℕ) → Option Label → Type 0
+LabelStandsIn request start None = Unit {0}
+LabelStandsIn request start (Some l) =
+    (n : ℕ) × NoLabelBefore request start n × (extension_type request start n ≡ 1)
+    × LabelStandsAt request l (extension_start request start n + 16)
 
 -- the names of a call lie in the request, and so do its value, its pairs, and its label: the first
 -- one directly behind the header (40 bytes) and the record of its kind (linux/fuse.h), the second
--- one directly behind it
+-- one directly behind it, the label in the extensions, which begin directly behind the last name
 abbrev pub CallStandsIn : (request : List ℕ) → FileCall → Type 0
 CallStandsIn request (value.Lookup context node name) = NameStandsAt request name 40
 CallStandsIn request (value.BatchForget context counts) = StandsIn request counts × (counts.at ≡ 48)
 CallStandsIn request (value.Symlink context link node name extra) =
     NameStandsAt request name 40 × NameStandsIn request link × IsBehind name link
-    × LabelStandsIn request extra.secctx
+    × LabelStandsIn request (behind link) extra.secctx
 CallStandsIn request (value.Mknod context node name mode rdev umask extra) =
-    NameStandsAt request name 56 × LabelStandsIn request extra.secctx
+    NameStandsAt request name 56 × LabelStandsIn request (behind name) extra.secctx
 CallStandsIn request (value.Mkdir context node name mode umask extra) =
-    NameStandsAt request name 48 × LabelStandsIn request extra.secctx
+    NameStandsAt request name 48 × LabelStandsIn request (behind name) extra.secctx
 CallStandsIn request (value.Unlink context node name) = NameStandsAt request name 40
 CallStandsIn request (value.Rmdir context node name) = NameStandsAt request name 40
 CallStandsIn request (value.Rename context node old new_dir new flags) =
@@ -64,5 +98,5 @@ CallStandsIn request (value.Setxattr context node name content flags extra) =
 CallStandsIn request (value.Getxattr context node name size) = NameStandsAt request name 48
 CallStandsIn request (value.Removexattr context node name) = NameStandsAt request name 40
 CallStandsIn request (value.Create context node name mode kill flags umask extra) =
-    NameStandsAt request name 56 × LabelStandsIn request extra.secctx
+    NameStandsAt request name 56 × LabelStandsIn request (behind name) extra.secctx
 CallStandsIn request _ = Unit {0}

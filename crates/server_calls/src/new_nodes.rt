@@ -2,6 +2,7 @@
 
 ghost use Rattle.std.specs.Prelude.{◌≡◌, ℕ, List, [], refl};
 ghost use Rattle.fuse_values.specs.Places.{CallStandsIn, IsBehind, LabelStandsIn, NameStandsAt, NameStandsIn};
+ghost use Rattle.fuse_values.specs.Places.{behind};
 ghost use Rattle.fuse_values.specs.Values.{call_of, received_extra};
 ghost use Rattle.server_calls.specs.Requests.{mknod_call, mkdir_call, create_call, symlink_call};
 
@@ -108,7 +109,8 @@ pub fn symlink_value<'a>(
       extra = received_extra extra.entry;
     }) }
     ensures places { (all : List ℕ) → NameStandsAt all name.entry 40 → NameStandsIn all link.entry
-        → IsBehind name.entry link.entry → LabelStandsIn all extra.entry.secctx → CallStandsIn all result }
+        → IsBehind name.entry link.entry → LabelStandsIn all (behind link.entry) extra.entry.secctx
+        → CallStandsIn all result }
 {
     FileCall::Symlink {
         context: Context::from(*head),

@@ -5,6 +5,7 @@ ghost use Rattle.fuse_in.specs.declared.session.InHeader.{InHeader};
 ghost use Rattle.fuse_fs.specs.Calls as call;
 ghost use Rattle.fuse_fs.specs.Calls.{Extra};
 ghost use Rattle.fuse_values.specs.Places.{CallStandsIn, IsBehind, LabelStandsIn, NameStandsAt, NameStandsIn};
+ghost use Rattle.fuse_values.specs.Places.{behind};
 ghost use Rattle.fuse_values.specs.Values.{call_of, received_extra};
 ghost use Rattle.server_calls.specs.Callers.{CallShows, Header, Named, NamedRecord, Made, shape_of};
 ghost use Rattle.server_calls.specs.Callers.{is_record};
@@ -129,5 +130,5 @@ pub trait NewNameValue {
         ensures reads { call_of [] result
             ≡ call head.now request.now (name.entry.bytes.now, received_extra extra.entry) }
         ensures places { (all : List ℕ) → NameStandsAt all name.entry (40 + Self.Record.SIZE)
-            → LabelStandsIn all extra.entry.secctx → CallStandsIn all result };
+            → LabelStandsIn all (behind name.entry) extra.entry.secctx → CallStandsIn all result };
 }

@@ -1,3 +1,4 @@
 pub mod Extras
 pub mod Fronts
+pub mod Labels
 pub mod Reading

@@ -1,15 +1,17 @@
 //! The extensions after the names of a request that creates a node.
 
-ghost use Rattle.std.specs.Prelude.{◌≡◌, ℕ, ◌+◌, ◌<◌, ◌≤◌, ◌&&◌, ◌||◌, not, nat_le, List, take, drop, length};
-ghost use Rattle.std.specs.Prelude.{is_none, Some, None, Ok, Err, IfOk, IfErr, false};
+ghost use Rattle.std.specs.Prelude.{◌≡◌, ℕ, suc, ◌+◌, ◌<◌, ◌≤◌, ◌&&◌, ◌||◌, not, nat_le, List, take, drop};
+ghost use Rattle.std.specs.Prelude.{length, is_none, Some, None, Ok, Err, IfOk, IfErr, false};
 ghost use Rattle.fuse_fs.specs.Answers.{extra_of, security_of};
 ghost use Rattle.server_requests.specs.Reading.{Faults, outcome, record_parser, value_of};
-ghost use Rattle.fuse_values.specs.Places.{LabelStandsIn, StandsIn};
+ghost use Rattle.fuse_values.specs.Places.{LabelStandsAt, LabelStandsIn, StandsIn};
+ghost use Rattle.fuse_values.specs.Places.{extension_start, extension_type};
 ghost use Rattle.fuse_values.specs.Values.{label_of, received_extra};
 ghost use Rattle.server_requests.specs.Extras.{takes_security, takes_group, sent_of, nothing_sent};
 ghost use Rattle.server_requests.specs.Extras.{security_context, one_group, part, extension, extensions};
 ghost use Rattle.server_requests.specs.Extras.{extra_in};
 ghost use Rattle.server_requests.specs.Extras.{security_part, group_part};
+ghost use Rattle.server_requests.specs.Labels.{LabelSoFar, ReadSoFar};
 ghost use Rattle.server_segments.specs.Errors.{is_memory};
 
 use crate::names::first_name;
@@ -66,7 +68,7 @@ fn split_placed(bytes: Placed<'_>, n: usize) -> (Placed<'_>, Placed<'_>)
     ensures rest { length result.1.bytes.now + n ≡ length bytes.entry.bytes.now }
     ensures places { (request : List ℕ) → StandsIn request bytes.entry
         → StandsIn request result.0 × StandsIn request result.1 }
-    ensures at { result.0.at ≡ bytes.entry.at }
+    ensures at { (result.0.at ≡ bytes.entry.at) × (result.1.at ≡ bytes.entry.at + n) }
 {
     let (front, rest) = bytes.bytes.split_at(n);
     let at = bytes.at + n as u32;
@@ -88,6 +90,7 @@ fn front_record<T: InRecord>(bytes: Placed<'_>) -> Result<WithRest<'_, T>, Error
     ensures len { IfOk result (λ x. length x.rest.bytes.now + T.SIZE ≡ length bytes.entry.bytes.now) }
     ensures places { IfOk result
         (λ x. (request : List ℕ) → StandsIn request bytes.entry → StandsIn request x.rest) }
+    ensures at { IfOk result (λ x. x.rest.at ≡ bytes.entry.at + T.SIZE) }
 {
     if bytes.bytes.len() < T::SIZE {
         return Err(Error::DecodeMessage);
@@ -105,7 +108,7 @@ fn security_context(bytes: Placed<'_>) -> Result<Label<'_>, Error>
     ensures reads { outcome label_of result ≡ value_of (security_context bytes.entry.bytes.now) }
     ensures fault { IfErr result (λ e. is_memory e ≡ false) }
     ensures places { IfOk result (λ label. (request : List ℕ) → StandsIn request bytes.entry
-        → LabelStandsIn request (Some label)) }
+        → LabelStandsAt request label (bytes.entry.at + 8)) }
 {
     match front_record::<Secctx>(bytes) {
         Ok(head) => {
@@ -177,8 +180,9 @@ fn security_part<'a>(
     ensures reads { outcome sent_of result
         ≡ value_of (security_part options.0 (sent_of sent.entry) kind bytes.entry.bytes.now) }
     ensures fault { IfErr result (λ e. is_memory e ≡ false) }
-    ensures places { IfOk result (λ x. (request : List ℕ) → StandsIn request bytes.entry
-        → LabelStandsIn request sent.entry.received.secctx → LabelStandsIn request x.received.secctx) }
+    ensures places { IfOk result (λ x. (request : List ℕ) (start n : ℕ) → StandsIn request bytes.entry
+        → bytes.entry.at ≡ extension_start request start n + 8 → extension_type request start n ≡ kind
+        → LabelSoFar request start n sent.entry → LabelSoFar request start (suc n) x) }
 {
     if !may_be_context(options, sent.was_sent, kind) {
         return Err(Error::DecodeMessage);
@@ -211,8 +215,8 @@ fn group_part<'a>(
     ensures reads { outcome sent_of result
         ≡ value_of (group_part options.0 (sent_of sent.entry) bytes.entry.bytes.now) }
     ensures fault { IfErr result (λ e. is_memory e ≡ false) }
-    ensures places { IfOk result (λ x. (request : List ℕ) → StandsIn request bytes.entry
-        → LabelStandsIn request sent.entry.received.secctx → LabelStandsIn request x.received.secctx) }
+    ensures label { IfOk result (λ x. (x.was_sent ≡ sent.entry.was_sent)
+        × (x.received.secctx ≡ sent.entry.received.secctx)) }
 {
     if !may_be_group(options, sent.received.sup_gid) {
         return Err(Error::DecodeMessage);
@@ -243,8 +247,9 @@ fn part<'a>(
     ensures reads { outcome sent_of result
         ≡ value_of (part options.0 (sent_of sent.entry) kind bytes.entry.bytes.now) }
     ensures fault { IfErr result (λ e. is_memory e ≡ false) }
-    ensures places { IfOk result (λ x. (request : List ℕ) → StandsIn request bytes.entry
-        → LabelStandsIn request sent.entry.received.secctx → LabelStandsIn request x.received.secctx) }
+    ensures places { IfOk result (λ x. (request : List ℕ) (start n : ℕ) → StandsIn request bytes.entry
+        → bytes.entry.at ≡ extension_start request start n + 8 → extension_type request start n ≡ kind
+        → LabelSoFar request start n sent.entry → LabelSoFar request start (suc n) x) }
 {
     if kind > EXT_GROUPS {
         return Err(Error::DecodeMessage);
@@ -272,9 +277,8 @@ fn extension<'a>(
         (λ e. (Err (Faults e) ≡ extension options.0 (sent_of sent.entry) bytes.entry.bytes.now)
         × (is_memory e ≡ false)) }
     ensures shorter { IfOk result (λ x. length x.rest.bytes.now < length bytes.entry.bytes.now) }
-    ensures places { IfOk result (λ x. (request : List ℕ) → StandsIn request bytes.entry
-        → LabelStandsIn request sent.entry.received.secctx
-        → StandsIn request x.rest × LabelStandsIn request x.sent.received.secctx) }
+    ensures places { IfOk result (λ x. (request : List ℕ) (start n : ℕ)
+        → ReadSoFar request start n sent.entry bytes.entry → ReadSoFar request start (suc n) x.sent x.rest) }
 {
     match front_record::<ExtHeader>(bytes) {
         Ok(head) => {
@@ -315,7 +319,7 @@ fn extensions<'a>(options: FsOptions, bytes: Placed<'a>) -> Result<SoFar<'a>, Er
         ≡ extensions options.0 (length bytes.entry.bytes.now) nothing_sent bytes.entry.bytes.now }
     ensures fault { IfErr result (λ e. is_memory e ≡ false) }
     ensures places { IfOk result (λ x. (request : List ℕ) → StandsIn request bytes.entry
-        → LabelStandsIn request x.received.secctx) }
+        → LabelStandsIn request bytes.entry.at x.received.secctx) }
 {
     let mut progress = ParseProgress {
         sent: nothing(),
@@ -353,7 +357,7 @@ pub(crate) fn received_extensions<'a>(
     ensures reads { outcome received_extra result ≡ extra_in options.0 bytes.entry.bytes.now }
     ensures fault { IfErr result (λ e. is_memory e ≡ false) }
     ensures places { IfOk result (λ x. (request : List ℕ) → StandsIn request bytes.entry
-        → LabelStandsIn request x.secctx) }
+        → LabelStandsIn request bytes.entry.at x.secctx) }
 {
     if takes_any(options) {
         match extensions(options, bytes) {

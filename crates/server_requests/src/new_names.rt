@@ -3,7 +3,7 @@
 ghost use Rattle.std.specs.Prelude.{◌≡◌, ℕ, ◌&&◌, List, Ok, Err, IfOk, IfErr, false};
 ghost use Rattle.server_segments.specs.Errors.{is_memory};
 ghost use Rattle.server_requests.specs.Reading.{Faults, value_of};
-ghost use Rattle.fuse_values.specs.Places.{IsBehind, LabelStandsIn, NameStandsIn, StandsIn};
+ghost use Rattle.fuse_values.specs.Places.{IsBehind, LabelStandsIn, NameStandsIn, StandsIn, behind};
 ghost use Rattle.fuse_values.specs.Values.{received_extra};
 ghost use Rattle.server_requests.specs.Extras.{new_name, new_link};
 
@@ -47,7 +47,7 @@ pub fn new_name<'a>(options: FsOptions, bytes: Placed<'a>) -> Result<NewName<'a>
     ensures fault { IfErr result (λ e. (Err (Faults e) ≡ value_of (new_name options.0 bytes.entry.bytes.now))
         × (is_memory e ≡ false)) }
     ensures places { IfOk result (λ x. (request : List ℕ) → StandsIn request bytes.entry
-        → NameStandsIn request x.name × LabelStandsIn request x.received.secctx) }
+        → NameStandsIn request x.name × LabelStandsIn request (behind x.name) x.received.secctx) }
     ensures at { IfOk result (λ x. x.name.at ≡ bytes.entry.at) }
 {
     match front_name(bytes) {
@@ -92,7 +92,7 @@ pub fn new_link<'a>(options: FsOptions, bytes: Placed<'a>) -> Result<LinkParts<'
         × (is_memory e ≡ false)) }
     ensures places { IfOk result (λ x. (request : List ℕ) → StandsIn request bytes.entry
         → NameStandsIn request x.name × NameStandsIn request x.link
-        × LabelStandsIn request x.received.secctx) }
+        × LabelStandsIn request (behind x.link) x.received.secctx) }
     ensures at { IfOk result (λ x. (x.name.at ≡ bytes.entry.at) × IsBehind x.name x.link) }
 {
     match front_name(bytes) {
