@@ -10,7 +10,7 @@ use Rattle.vm_memory.specs.Memory.{located, location}
 use Rattle.fs_queue.specs.Chain.{Descriptor, is_writable}
 use Rattle.fs_queue.specs.Taking.{all_reach, total_len, access_of, of_direction}
 use Rattle.fs_regions.specs.Places.{Mapped, places_in}
-use Rattle.fs_regions.specs.Windows.{HasNoWindowFrom, IsWindowFrom, StandsIn}
+use Rattle.fs_regions.specs.Windows.{HasNoWindowFrom, IsByteOf, IsWindowFrom}
 use Rattle.fs_regions.proofs.Directions.{Skips, skips_begin, skips_on, skips_other}
 use Rattle.fs_chain.specs.declared.window_cursor.WindowCursor.{WindowCursor}
 use Rattle.fs_chain.specs.Passing.{HasPassed}
@@ -71,7 +71,7 @@ passed_skips l b ds p from passed below =
 -- a window behind what was skipped
 stands_behind : (l : Mapped) (b : Bool) (ds : List Descriptor) (from skip : ℕ) (rest : List Descriptor) (d : Descriptor) (k : ℕ)
     → Skips l b ds from skip rest
-    → StandsIn (of_direction b rest) skip d k → StandsIn (of_direction b ds) from d k
+    → IsByteOf (of_direction b rest) skip d k → IsByteOf (of_direction b ds) from d k
 stands_behind l b ds from skip rest d k s is =
     let front = s.front in
     let sum = sum_by-append (λ (x : Descriptor). x.len) front.0 is.0 in

@@ -14,7 +14,7 @@ use Rattle.vm_memory.proofs.Places.{addresses-append, length-addresses}
 use Rattle.fs_queue.specs.Chain.{Descriptor, is_writable}
 use Rattle.fs_queue.specs.Taking.{all_reach, total_len, access_of, addresses_of, of_direction}
 use Rattle.fs_regions.specs.Places.{Mapped, left_in, places_in}
-use Rattle.fs_regions.specs.Windows.{HasNoWindowFrom, IsWindowFrom, StandsIn}
+use Rattle.fs_regions.specs.Windows.{HasNoWindowFrom, IsByteOf, IsWindowFrom}
 
 abbrev preserved : Bool → Descriptor → List Descriptor → List Descriptor
 preserved true d ds = d ∷ ds
@@ -95,7 +95,7 @@ skips_on l b ds from skip d rest this long s =
 -- where the next byte stands, if the first descriptor that is left has it
 pub stands : (l : Mapped) (b : Bool) (ds : List Descriptor) (from skip : ℕ) (d : Descriptor) (rest : List Descriptor) →
     beq (is_writable d) b ≡ true → skip < d.len →
-    Skips l b ds from skip (d ∷ rest) → StandsIn (of_direction b ds) from d skip
+    Skips l b ds from skip (d ∷ rest) → IsByteOf (of_direction b ds) from d skip
 stands l b ds from skip d rest this less s =
     let front : (before : List Descriptor) × (of_direction b ds ≡ before ++ d ∷ of_direction b rest) × (from ≡ total_len before + skip) =
     rw (direction b true d rest this) at s.front in

@@ -32,8 +32,8 @@ HavePlaces where_is addr n =
     (addr + n < 2 ^ 64) × (list_all (λ a. is_some (where_is a)) (addresses addr n) ≡ true)
 
 -- byte `from` of some descriptors is byte `skip` of this descriptor
-abbrev pub StandsIn : List Descriptor → (from : ℕ) → (d : Descriptor) → (skip : ℕ) → Type 0
-StandsIn ds from d skip =
+abbrev pub IsByteOf : List Descriptor → (from : ℕ) → (d : Descriptor) → (skip : ℕ) → Type 0
+IsByteOf ds from d skip =
     (before behind : List Descriptor)
     × (ds ≡ before ++ d ∷ behind)
     × (from ≡ total_len before + skip)
@@ -48,7 +48,7 @@ IsWindowFrom regions write_only ds from w =
     × (located (location (places_in regions) (access_of write_only))
     (take w.len (drop from (addresses_of (of_direction write_only ds)))) ≡ Some (places_of w))
     × (d : Descriptor) × (skip : ℕ)
-    × StandsIn (of_direction write_only ds) from d skip
+    × IsByteOf (of_direction write_only ds) from d skip
     × (w.len ≡ min (d.len - skip) (left_in (places_in regions) (d.addr + skip)))
 
 -- there is no window of the bytes of one direction from byte `from` on. Either the direction has no such
@@ -69,5 +69,5 @@ IsRangeFrom write_only ds from guest len =
     × (guest ≡ a % 2 ^ 64)
     × (take len (drop from (addresses_of (of_direction write_only ds))) ≡ addresses a len)
     × (d : Descriptor) × (skip : ℕ)
-    × StandsIn (of_direction write_only ds) from d skip
+    × IsByteOf (of_direction write_only ds) from d skip
     × (len ≡ d.len - skip)
