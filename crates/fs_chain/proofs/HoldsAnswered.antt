@@ -1,5 +1,5 @@
 -- The answer to the call of a chain that the handle holds.
-use Rattle.std.proofs.Common.{◌≡◌, ◌+◌, ◌≤◌, ℕ, Bool, true, List, [], ◌∷◌, ◌++◌, length, Option, Some, None, refl, subst, sym, ap, ◌∙◌}
+use Rattle.std.proofs.Common.{◌≡◌, ◌+◌, ◌≤◌, ℕ, List, [], ◌∷◌, ◌++◌, length, Option, Some, None, refl, subst, sym, ap, ◌∙◌}
 use Rattle.std.specs.Prelude.{drop, false, take, IsTrue, IfOk, OnOk, Result, Ok, Err}
 use Rattle.std.proofs.Math.Seq.{take-length}
 use Rattle.fs_chain.specs.declared.error.ChainError.{ChainError}
@@ -18,7 +18,7 @@ use Rattle.server_phases.specs.Waiting.{first_call}
 use Rattle.server_phases.specs.declared.answering.Sent.{Sent}
 use Rattle.server_phases.specs.declared.answering.Sent.TheVariants as sent
 use Rattle.server_phases.specs.declared.session.Session.{Session}
-use Rattle.plain_machine.specs.Step.{Calls, calls_alone}
+use Rattle.plain_machine.specs.Step.{Calls}
 use Rattle.live_machine.specs.Live.{Asked, InFlightChain, Phase, after_answer, asked_chain, room_of, room_of_phase}
 use Rattle.fs_chain.specs.Answers.{CanBeGiven, IfWaits, IsGiven, IsWaiting, data_len, reply_of}
 use Rattle.fs_chain.specs.Holds.{Answers, AnsweringIs, ForgettingIs, IsHeldIn, IsOutAs, IsRepliedWith, KeepsReplyOf, Machine, served_so}

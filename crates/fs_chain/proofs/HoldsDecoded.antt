@@ -1,8 +1,8 @@
 -- The decoding of a chain that the handle holds.
-use Rattle.std.proofs.Common.{arith, append-nil, ◌≡◌, ◌+◌, ◌≤◌, ◌^◌, ℕ, Bool, List, [], ◌∷◌, ◌++◌, length, Option, Some, None, refl, subst}
+use Rattle.std.proofs.Common.{arith, append-nil, ◌≡◌, ◌+◌, ◌≤◌, ◌^◌, ℕ, List, [], ◌∷◌, ◌++◌, length, Option, Some, None, refl, subst}
 use Rattle.std.proofs.Common.{sym, ap, take, ◌∙◌}
 use Rattle.std.specs.Prelude.{drop, IfOk, OnOk, Result, Ok, Err}
-use Rattle.fs_queue.specs.Taking.{addresses_of, readable, total_len, writable}
+use Rattle.fs_queue.specs.Taking.{readable, total_len}
 use Rattle.fuse_fs.specs.Calls.{FileCall}
 use Rattle.fuse_values.specs.Values.{call_of}
 use Rattle.fuse_values.specs.declared.call.FileCall as made_call
@@ -22,7 +22,7 @@ use Rattle.live_machine.proofs.Queues.{none_some}
 use Rattle.fs_chain.specs.Decoding.{IfUndecoded, KeepsCall, KeepsReply, ReportsMeaning, asked_of}
 use Rattle.fs_chain.specs.Holds.{any_files, Decodes, DecodingIs, IsDecodedIn, IsHeldIn, IsOutAs, IsUnanswered, KeepsReplyOf, Machine}
 use Rattle.fs_chain.specs.Holds.{calls_decoded}
-use Rattle.fs_chain.specs.Orders.{ask_error, front_in, front_len, front_of, reply_len}
+use Rattle.fs_chain.specs.Orders.{ask_error, front_in, front_len, front_of}
 use Rattle.fs_chain.specs.Walks.{no_reply}
 use Rattle.fs_chain.specs.declared.chain_handle.ChainHandle.{ChainHandle}
 use Rattle.fs_chain.specs.declared.decoding.Decoded.{Decoded}

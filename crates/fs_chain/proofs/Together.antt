@@ -2,14 +2,13 @@
 use Rattle.std.proofs.Common.{◌≡◌, ℕ, List, [], ◌∷◌, ◌++◌, Option, Some, None, map, slice_get, refl, subst, sym, ap, ◌∙◌}
 use Rattle.std.specs.List.{AllByRecursion}
 use Rattle.std.proofs.lemmas.List.{map-append}
-use Rattle.vm_memory_core.specs.Host.{changed_at}
 use Rattle.live_machine.specs.Live.{InFlightChain}
 use Rattle.live_machine.proofs.Alone.{all_both, all_left, all_right}
 use Rattle.live_machine.proofs.Queues.{there_other, there_same}
-use Rattle.fs_chain.specs.Holds.{HoldsChain, Machine}
+use Rattle.fs_chain.specs.Holds.{HoldsChain}
 use Rattle.fs_chain.specs.Together.{EachHasOne, FindsOwn, HasNoMore, HasNone, IsHeldBy, IsNot, JoinsOthers, KeepsOthers, LeavesOthers}
 use Rattle.fs_chain.specs.Together.{Owned}
-use Rattle.fs_chain.specs.Together.{Together, with_handle}
+use Rattle.fs_chain.specs.Together.{with_handle}
 use Rattle.fs_chain.specs.declared.chain_handle.ChainHandle.{ChainHandle}
 
 abbrev pub chains_of : List Owned → List InFlightChain

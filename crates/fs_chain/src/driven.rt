@@ -1,6 +1,6 @@
 //! Calls of a handle one behind another: their theorems compose, without a law.
 
-ghost use Rattle.std.specs.Prelude.{◌≡◌, IfOk};
+ghost use Rattle.std.specs.Prelude.{IfOk};
 ghost use Rattle.fs_chain.specs.Holds.{EndsPush};
 
 use crate::chain_handle::ChainHandle;

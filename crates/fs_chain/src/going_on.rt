@@ -11,7 +11,6 @@ ghost use Rattle.fs_regions.specs.Walks.{asked_by, asked_len};
 ghost use Rattle.fs_chain.specs.Orders.{begin_error, give_error, walk_error, entries_asked, IfWalking};
 ghost use Rattle.fs_chain.specs.Orders.{IsWalking};
 ghost use Rattle.fs_chain.specs.Walks.{LacksRoom, WalksOn, IsAllBut};
-ghost use Rattle.fs_chain.specs.declared.state.ChainState.TheVariants as at;
 
 use crate::chain_handle::ChainHandle;
 use crate::error::ChainError;

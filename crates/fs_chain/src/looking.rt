@@ -4,7 +4,6 @@ ghost use Rattle.std.specs.Prelude.{◌≡◌, ◌<◌, ◌≤◌, IfSome, OnSom
 ghost use Rattle.vm_memory.specs.Memory.{location};
 ghost use Rattle.fs_queue.specs.Taking.{total_len, of_direction};
 ghost use Rattle.fs_regions.specs.Places.{left_in, places_in};
-ghost use Rattle.fs_regions.specs.Walks.{asked_len};
 ghost use Rattle.fs_regions.specs.Windows.{IsRangeFrom, LiesApart, LiesAt};
 ghost use Rattle.fs_chain.specs.Numbers.{state_number};
 ghost use Rattle.fs_chain.specs.Orders.{is_free, is_listing, is_out, load_len, memory_error, room_len};

@@ -6,8 +6,6 @@ ghost use Rattle.vm_iotlb.specs.declared.permissions.Permissions.TheVariants.{Re
 ghost use Rattle.vm_memory.specs.Memory.{reach};
 ghost use Rattle.fs_queue.specs.Chain.{IsChain, entry_address, first_visit};
 ghost use Rattle.fs_queue.specs.Loads.{Reads, ahead_at, asks_entry, chain_exactly};
-ghost use Rattle.fs_queue.specs.NextAvail.{NextAvail};
-ghost use Rattle.fs_queue.specs.OfferLoads.{available_by};
 ghost use Rattle.fs_queue.specs.Queue.{avail_index_at, ring_entry_at};
 ghost use Rattle.fs_queue.specs.RingingView.{by_index};
 ghost use Rattle.fs_queue.specs.SteppingView.{ahead_of, visit_of, IfWants};

@@ -3,7 +3,6 @@
 
 ghost use Rattle.std.specs.Prelude.{◌≡◌, ◌-◌, ◌^◌, [], ◌∷◌, IfSome, None, min, true};
 ghost use Rattle.vm_iotlb.specs.declared.permissions.Permissions.TheVariants.{Read, Write};
-ghost use Rattle.vm_memory.specs.Memory.{reach};
 ghost use Rattle.fs_queue.specs.Chain.{is_writable};
 ghost use Rattle.fs_queue.specs.Taking.{access_of, all_reach, chain_fault, readable, return_fault, total_len};
 ghost use Rattle.fs_queue.specs.Taking.{writable};

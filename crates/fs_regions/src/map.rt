@@ -1,6 +1,6 @@
 //! A guest's memory: its regions, and an IOMMU's table, if there is one.
 
-ghost use Rattle.std.specs.Prelude.{◌≡◌, ◌+◌, ◌<◌, ◌^◌, ℕ, List, [], ◌∷◌, IfSome, None, Some, MatchOption};
+ghost use Rattle.std.specs.Prelude.{◌≡◌, ◌+◌, ◌<◌, ◌^◌, List, [], ◌∷◌, IfSome, None, Some, MatchOption};
 ghost use Rattle.std.specs.Prelude.{is_some, min};
 ghost use Rattle.std.specs.List.{list_all};
 ghost use Rattle.vm_iotlb.specs.AddressRuns.{missing};
@@ -8,7 +8,6 @@ ghost use Rattle.vm_iotlb.specs.Ranges.{table_held};
 ghost use Rattle.vm_iotlb.specs.declared.iova.IovaRange.{IovaRange};
 ghost use Rattle.vm_iotlb.specs.declared.permissions.Permissions.{Permissions};
 ghost use Rattle.vm_iotlb.specs.declared.range.IotlbRange.{IotlbRange};
-ghost use Rattle.vm_memory.specs.Layout.{left_at};
 ghost use Rattle.vm_memory.specs.Memory.{addresses, location, reach};
 ghost use Rattle.vm_memory.specs.Slices.{IsWindowAt};
 ghost use Rattle.vm_memory.specs.Translated.{translated, translated_left};

@@ -3,7 +3,6 @@
 ghost use Rattle.std.specs.Prelude.{◌≡◌, [], None, IfSome};
 ghost use Rattle.fs_queue.specs.RingingView.{BeginsChain};
 ghost use Rattle.fs_queue.specs.SteppingView.{IfWants};
-ghost use Rattle.fs_queue.specs.WalkingView.{at_position};
 ghost use Rattle.fs_regions.specs.Ahead.{BeginsAhead, loads_ahead};
 ghost use Rattle.fs_regions.specs.Straight.{EndsChain, ProceedsAt, ProceedsByHead, ProceedsFrom, IsCounted};
 ghost use Rattle.fs_regions.specs.Straight.{ReadsAhead};

@@ -1,7 +1,6 @@
 //! The entries in answers. The server forgets the node of an entry whose reply doesn't fit.
 
 ghost use Rattle.std.specs.Prelude.{◌≡◌, None, Ok, option_map};
-ghost use Rattle.fuse_fs.specs.Answers.{context_of};
 ghost use Rattle.server_calls.specs.Requests.{entry_node};
 
 use fuse_fs::{Entry, FileNumber, GetxattrReply, GoodAnswer};

@@ -4,7 +4,7 @@ ghost use Rattle.std.specs.Prelude.{◌≡◌, ◌+◌, ◌<◌, ◌≤◌, ◌^
 ghost use Rattle.std.specs.Result.{ForOk};
 ghost use Rattle.vm_values.specs.Fields.{spelled};
 ghost use Rattle.fuse_wire.specs.Records.{out_header};
-ghost use Rattle.server_replies.specs.WholeReplies.{reply_bytes, error_bytes, data_header, data_reply};
+ghost use Rattle.server_replies.specs.WholeReplies.{error_bytes, data_header, data_reply};
 ghost use Rattle.server_replies.specs.WholeReplies.{with_written, whole_or_none, LeavesWriter};
 ghost use Rattle.server_segments.specs.Errors.{lacks_memory};
 

@@ -1,4 +1,3 @@
-use Rattle.vm_iotlb.specs.declared.permissions.Permissions.TheVariants.{Write}
 use Rattle.fs_regions.specs.Places.{places_in}
 use Rattle.fs_chain.proofs.RingPlaces.{found_place}
 use Rattle.fs_chain.proofs.ring_place.host_place.Goals as goal
