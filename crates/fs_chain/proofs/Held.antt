@@ -1,6 +1,5 @@
 -- What a handle holds of a run: the loads of its pop, and a chain without a reply.
-use Rattle.std.proofs.Common.{◌≡◌, ◌+◌, ◌<◌, ◌^◌, ℕ, zero, suc, true, subst, arith}
-use Rattle.std.specs.Prelude.{is_some, nat_lt}
+use Rattle.std.proofs.Common.{◌≡◌, ◌+◌, ◌<◌, ◌^◌, ℕ, zero, suc, true, subst, arith, is_some, nat_lt}
 use Rattle.std.specs.List.{list_all}
 use Rattle.std.proofs.lemmas.Bool.{and_parts}
 use Rattle.vm_iotlb.specs.declared.permissions.Permissions.TheVariants.{Read}
@@ -11,11 +10,23 @@ use Rattle.live_machine.proofs.Loads.{inside_of, made_more, room_for_one}
 use Rattle.live_machine.specs.Live.{Abandoned, Asked, Fetched, InFlightChain, Own, Phase, PoppedFaulty}
 use Rattle.server_phases.specs.declared.session.Session.{Session}
 use Rattle.fs_chain.specs.Held.{AskedIsMapped, HeldIsUnreplied, IsWithoutReply, LoadsAreFew, LoadsCount}
-use Rattle.fs_chain.specs.Holds.{HasUnreplied, IsHeldIn}
+use Rattle.fs_chain.specs.Holds.{HasUnreplied, IsHeldIn, IsOutAs}
 use Rattle.fs_chain.specs.Pops.{AddsSo}
 use Rattle.fs_chain.specs.declared.loads.LoadOutcome.TheVariants as outcomes
 use Rattle.fs_chain.specs.declared.state.ChainState as state
 use Rattle.fs_chain.specs.declared.state.ChainState.TheVariants as at
+use Rattle.fs_chain.specs.declared.state.InFlight.{InFlight}
+
+-- a chain in flight, in another phase
+pub out_in : (c : InFlightChain) (p : Phase) (out : InFlight) → IsOutAs c out → IsOutAs (record c { phase = p }) out
+out_in c p out is = record {
+  taken = is.taken;
+  ring = is.ring;
+  head = is.head;
+  request_len = is.request_len;
+  room_len = is.room_len;
+  small = is.small;
+}
 
 -- each address of a mapped range has a place
 has_place : (l : Mapped) (n a i : ℕ) → list_all (λ x. is_some (location (places_in l) Read x)) (addresses a n) ≡ true → i < n →

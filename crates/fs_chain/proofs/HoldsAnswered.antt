@@ -9,7 +9,7 @@ use Rattle.fuse_fs.specs.declared.answers.Context.{Context}
 use Rattle.fuse_values.specs.Answers.{answer_of}
 use Rattle.fuse_values.specs.Values.{call_of}
 use Rattle.fuse_values.specs.declared.answer.FileAnswer as made_answer
-use Rattle.virtiofsd_fuse.specs.Grammar.{FileCommand, Lists, Meaning, One, Starts, meaning}
+use Rattle.virtiofsd_fuse.specs.Grammar.{FileCommand, Lists, Meaning, meaning}
 use Rattle.virtiofsd_fuse.specs.Serving.{ServedMessage, Setting, commanded, served, setting}
 use Rattle.virtiofsd_fuse.proofs.Serve.{served_fits}
 use Rattle.server_phases.specs.Answering.{Gives, ReportsBytes, forget_calls, served_by}
@@ -31,6 +31,7 @@ use Rattle.fs_chain.specs.declared.state.ChainState.TheVariants as at
 use Rattle.fs_chain.specs.declared.state.InFlight.{InFlight}
 use Rattle.fs_chain.proofs.HoldsDecoded.{call_waits}
 use Rattle.fs_chain.proofs.Replies.{by_calls, by_options, by_reply, data_is, isnt_cut, whole_len}
+use Rattle.fs_chain.proofs.Held.{out_in}
 
 -- the bytes of a reply, behind its front
 sent_bytes : (cs : List FileCall) (o n : ℕ) (x : Sent) (bytes : List ℕ) →
@@ -48,9 +49,8 @@ data_bytes cs o n sent.NoRoom bytes is = refl
 -- an answer behind the first one tells nothing more
 no_more : (s : Setting) (command : FileCommand) (x : FileAnswer) (more : List FileAnswer) → is_list_command command ≡ false →
     commanded s command (x ∷ more) ≡ commanded s command (x ∷ [])
-no_more s (One unique call) x more is = refl
-no_more s (Starts unique capable readahead) x more is = refl
 no_more s (Lists unique l) x more is = absurd (cc)
+no_more s _ x more is = refl
 
 -- a FORGET that is owed
 forgets : (s : Machine) (before behind : List InFlightChain) (c : InFlightChain) (request : List ℕ) (options : ℕ) (call : FileCall)
@@ -85,14 +85,7 @@ forgets s before behind c request options call x new (Some node) out preserved i
       },
       subst (λ (st : state.ChainState). IsHeldIn s.page_size (asked_chain c request options calls) (Asked request options calls) st
           new.session) (sym state_is) (
-            record {
-              taken = is_out.taken;
-              ring = is_out.ring;
-              head = is_out.head;
-              request_len = is_out.request_len;
-              room_len = is_out.room_len;
-              small = is_out.small;
-            },
+            out_in c _ _ is_out,
             subst (λ (m : ServedMessage). KeepsReplyOf m.reply out preserved) (sym same) keeps,
             tt,
           ),
@@ -145,14 +138,7 @@ by_state (at.Waits out w) was new a reported given waits can s before behind c r
     ap (λ (k : Meaning). served set k (answer_of bytes a ∷ Done ∷ [])) asks.1
     ∙ no_more set command (answer_of bytes a) (Done ∷ []) (held.5 command asks.4)
     ∙ sym (ap (λ (k : Meaning). served set k (answer_of bytes a ∷ [])) asks.1) in
-    let now_out : IsOutAs (asked_chain c request options calls) out = record {
-      taken = is_out.taken;
-      ring = is_out.ring;
-      head = is_out.head;
-      request_len = is_out.request_len;
-      room_len = is_out.room_len;
-      small = is_out.small;
-    } in
+    let now_out : IsOutAs (asked_chain c request options calls) out = out_in c _ _ is_out in
     let keeps_served : KeepsReplyOf (served_so s.page_size options request r calls).reply out preserved =
     subst (λ (x : ServedMessage). KeepsReplyOf x.reply out preserved) (sym serving) keeps in
     let all : (served_so s.page_size options request (length (addresses_of (writable c.descriptors))) calls).calls

@@ -1,7 +1,5 @@
 -- Freeing a handle, a store before a sleep, a reset, and another memory, as events of a run.
-use Rattle.std.proofs.Common.{◌≡◌, inl, inr, ◌<◌, ◌^◌, ℕ, Bool, List, Option, Some, None, refl, subst, sym}
-use Rattle.std.proofs.Common.{ap, ◌∙◌}
-use Rattle.std.specs.Prelude.{option_map}
+use Rattle.std.proofs.Common.{◌≡◌, inl, inr, ◌<◌, ◌^◌, ℕ, Bool, List, Option, Some, None, refl, subst, sym, ap, ◌∙◌, option_map}
 use Rattle.std.specs.List.{AllByRecursion}
 use Rattle.fs_queue.specs.Returning.{Store}
 use Rattle.fs_queue.specs.declared.layout.QueueLayout.{QueueLayout}

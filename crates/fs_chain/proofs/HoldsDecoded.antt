@@ -1,7 +1,6 @@
 -- The decoding of a chain that the handle holds.
 use Rattle.std.proofs.Common.{arith, append-nil, ◌≡◌, ◌+◌, ◌≤◌, ◌^◌, ℕ, List, [], ◌∷◌, ◌++◌, length, Option, Some, None, refl, subst}
-use Rattle.std.proofs.Common.{sym, ap, take, ◌∙◌}
-use Rattle.std.specs.Prelude.{drop, IfOk, OnOk, Result, Ok, Err}
+use Rattle.std.proofs.Common.{drop, IfOk, OnOk, Result, Ok, Err, sym, ap, take, ◌∙◌}
 use Rattle.fs_queue.specs.Taking.{readable, total_len}
 use Rattle.fuse_fs.specs.Calls.{FileCall}
 use Rattle.fuse_values.specs.Values.{call_of}
@@ -34,6 +33,7 @@ use Rattle.fs_chain.specs.declared.state.ChainState as state
 use Rattle.fs_chain.specs.declared.state.ChainState.TheVariants as at
 use Rattle.fs_chain.specs.declared.state.InFlight.{InFlight}
 use Rattle.fs_chain.proofs.Replies.{isnt_cut}
+use Rattle.fs_chain.proofs.Held.{out_in}
 
 -- ---- the pending call
 
@@ -77,9 +77,8 @@ DecodedSo page_size options request c out made st session =
 
 list_command : (l : Listing) (room : ℕ) (command : FileCommand) → IsListingFor l room command →
     (unique : ℕ) × (a : ListRequest) × (command ≡ Lists unique a) × IsListingFor l room (Lists unique a)
-list_command l room (One unique call) is = absurd is
-list_command l room (Starts unique capable readahead) is = absurd is
 list_command l room (Lists unique a) is = (unique, a, refl, is)
+list_command l room _ is = absurd is
 
 by_call : (page_size options : ℕ) (request : List ℕ) (c : InFlightChain) (out : InFlight) (made : made_call.FileCall)
     (st : state.ChainState) (session : Session) → IsOutAs c out → IsDecodedIn page_size options session
@@ -92,14 +91,7 @@ by_call page_size options request c out made (at.Waits preserved w) session is_o
       call_waits (setting page_size options out.room_len) (meaning options request out.room_len) a.0 (call_of (drop 80 request) made) a.1
           a.2,
       subst P (sym keeps.0) (
-        record {
-          taken = is_out.taken;
-          ring = is_out.ring;
-          head = is_out.head;
-          request_len = is_out.request_len;
-          room_len = is_out.room_len;
-          small = is_out.small;
-        },
+        out_in c _ _ is_out,
         refl,
         decoded,
         made,
@@ -116,14 +108,7 @@ by_call page_size options request c out made (at.Lists preserved l) session is_o
       call_waits (setting page_size options out.room_len) (meaning options request out.room_len) a.0 (call_of (drop 80 request) made) a.1
           a.2,
       subst P (sym keeps.0) (
-        record {
-          taken = is_out.taken;
-          ring = is_out.ring;
-          head = is_out.head;
-          request_len = is_out.request_len;
-          room_len = is_out.room_len;
-          small = is_out.small;
-        },
+        out_in c _ _ is_out,
         decoded,
         list.0,
         list.1,
@@ -154,14 +139,7 @@ known page_size options request c out preserved reply session given is_out same 
     (at.HasReply o reply) session in (
       sym (ap (λ (k : ServedMessage). k.calls) serving ∙ no_calls),
       subst P (sym same) (
-        record {
-          taken = is_out.taken;
-          ring = is_out.ring;
-          head = is_out.head;
-          request_len = is_out.request_len;
-          room_len = is_out.room_len;
-          small = is_out.small;
-        },
+        out_in c _ _ is_out,
         subst (λ (x : ServedMessage). KeepsReplyOf x.reply out reply) (sym serving) keeps,
         ap (λ (k : ServedMessage). k.calls) serving ∙ no_calls,
       ),

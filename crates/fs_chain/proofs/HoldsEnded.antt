@@ -1,8 +1,6 @@
 -- A chain that the handle gives up, or to which its caller replies.
-use Rattle.std.proofs.Common.{arith, ◌≡◌, ◌+◌, ◌≤◌, ◌<◌, ◌^◌, ◌-◌, ℕ, Bool, List, ◌∷◌, ◌++◌, length, Some, None, refl, subst}
-use Rattle.std.proofs.Common.{sym, ap, ◌∙◌}
-use Rattle.std.specs.Prelude.{OnOk, Result, Ok, Err}
-use Rattle.std.specs.Prelude.{◌==◌, ◌%◌, ◌||◌, false, true, if◌then◌else◌, min, nat_lt, not}
+use Rattle.std.proofs.Common.{arith, ◌≡◌, ◌+◌, ◌≤◌, ◌<◌, ◌^◌, ◌-◌, ℕ, Bool, List, ◌∷◌, ◌++◌, length, Some, None, refl, subst, sym, ap, ◌∙◌}
+use Rattle.std.specs.Prelude.{OnOk, Result, Ok, Err, ◌==◌, ◌%◌, ◌||◌, false, true, if◌then◌else◌, min, nat_lt, not}
 use Rattle.std.proofs.Math.Nat.{min-eq_left}
 use Rattle.std.proofs.lemmas.Bool.{and_parts, eqb-true, ltb-false}
 use Rattle.fs_queue.specs.Queue.{Queue}
@@ -14,8 +12,7 @@ use Rattle.live_machine.specs.Several as several
 use Rattle.live_machine.specs.Live.{Asked, Fetched, GivesUpChain, Happens, InFlightChain, IsUnreplied, Own, Phase, RepliesOwnBytes}
 use Rattle.live_machine.specs.Live.{after_giving_up, after_own, room_of, room_of_phase}
 use Rattle.live_machine.proofs.Queues.{none_some, there_same}
-use Rattle.fs_chain.specs.Holds.{GivesUp, HasUnreplied, HoldsChain, IsHeldIn, IsOutAs, IsQueue, Machine, RepliesOwn}
-use Rattle.fs_chain.specs.Holds.{any_files, live_of}
+use Rattle.fs_chain.specs.Holds.{GivesUp, HasUnreplied, HoldsChain, IsHeldIn, IsOutAs, IsQueue, Machine, RepliesOwn, any_files, live_of}
 use Rattle.fs_chain.specs.Orders.{give_up_error, is_out, reply_len}
 use Rattle.fs_chain.specs.OwnReplies.{IfUnanswered, own_chain_error, own_error, own_len_error, own_reply}
 use Rattle.fs_chain.specs.Queues.{gave_up, is_in_flight_of, is_last}
@@ -28,6 +25,7 @@ use Rattle.fs_chain.specs.declared.state.ChainState as state
 use Rattle.fs_chain.specs.declared.state.ChainState.TheVariants as at
 use Rattle.fs_chain.specs.declared.state.InFlight.{InFlight}
 use Rattle.fs_chain.specs.declared.state.PopId.{PopId}
+use Rattle.fs_chain.proofs.Held.{out_in}
 
 -- ---- giving up
 
@@ -103,9 +101,8 @@ low_again n few = omega (arith, few)
 
 len_tests : (room len : ℕ) (a b : Bool) → nat_lt room len ≡ a → nat_lt (2 ^ 32 - 1) len ≡ b →
     (if a || b then Some error.LongReply else None) ≡ None → Fits room len
-len_tests room len true b one two is = absurd (none_some error.LongReply (sym is))
-len_tests room len false true one two is = absurd (none_some error.LongReply (sym is))
 len_tests room len false false one two is = (ltb-false room len one, low len (ltb-false (2 ^ 32 - 1) len two))
+len_tests room len _ _ one two is = absurd (none_some error.LongReply (sym is))
 
 chain_tests : (a : Bool) (room len : ℕ) → (if not a then Some error.OtherCall else own_len_error room len) ≡ None → Fits room len
 chain_tests false room len is = absurd (none_some error.OtherCall (sym is))
@@ -145,14 +142,7 @@ replied_so s before behind c request reply options mine serial out st session is
       },
       subst (λ (k : state.ChainState). IsHeldIn s.page_size (record c { phase = Own request reply }) (Own request reply) k session)
           (sym preserved) (
-            record {
-              taken = is_out.taken;
-              ring = is_out.ring;
-              head = is_out.head;
-              request_len = is_out.request_len;
-              room_len = is_out.room_len;
-              small = is_out.small;
-            },
+            out_in c _ _ is_out,
             record { behind = reply; bytes = refl; len = reported_len out (length reply) few },
           ),
     )

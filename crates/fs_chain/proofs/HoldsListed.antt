@@ -1,10 +1,8 @@
 -- A listing that the handle gathers: its entries, its file calls, and its end.
-use Rattle.std.proofs.Common.{◌≡◌, ◌+◌, ℕ, Bool, true, false, List, [], ◌∷◌, ◌++◌, length, take, Some, Result, Ok, Err}
-use Rattle.std.proofs.Common.{refl, subst, sym, ap, ◌∙◌, inl, inr, length-append}
-use Rattle.std.specs.Prelude.{IsTrue, IfOk}
-use Rattle.fs_queue.specs.Taking.{addresses_of, writable}
+use Rattle.std.proofs.Common.{◌≡◌, ◌+◌, ℕ, List, [], ◌∷◌, ◌++◌, length, take, Some, Result, Ok, Err, IsTrue, IfOk, refl, subst, sym, ap}
+use Rattle.std.proofs.Common.{◌∙◌, inl, inr, length-append, Bool, true, false}
 use Rattle.fuse_fs.specs.Calls.{FileAnswer, FileCall, suits, Entries}
-use Rattle.virtiofsd_fuse.specs.Grammar.{Asks, FileCommand, Lists, Meaning, meaning}
+use Rattle.virtiofsd_fuse.specs.Grammar.{Asks, Lists, Meaning, meaning, FileCommand}
 use Rattle.virtiofsd_fuse.specs.Listings.{ListRequest, readdir_call}
 use Rattle.virtiofsd_fuse.specs.Serving.{Setting, ServedMessage, commanded, served, setting}
 use Rattle.virtiofsd_fuse.proofs.Serve.{served_fits}
@@ -16,10 +14,9 @@ use Rattle.server_phases.specs.declared.listing.ListingReply.{ListingReply}
 use Rattle.plain_machine.specs.Step.{Calls, answers_alone, calls_alone}
 use Rattle.live_machine.specs.Live.{Asked, InFlightChain, Phase, room_of, room_of_phase}
 use Rattle.live_machine.proofs.EachCall.{each_waits_first}
-use Rattle.fs_chain.specs.Holds.{IsDecodedIn, IsHeldIn, IsPastFirstCall, IsUnanswered, KeepsReplyOf, Machine, served_so}
+use Rattle.fs_chain.specs.Holds.{IsDecodedIn, IsHeldIn, IsPastFirstCall, KeepsReplyOf, Machine, served_so, IsUnanswered}
 use Rattle.fs_chain.specs.HoldsListings.{AddingIs, AddsEntry, BeginsListing, EndsListing, FailsListing, HasListed, HoldsListing, IsLeftOut}
-use Rattle.fs_chain.specs.HoldsListings.{GathersDecoded, LeavesOut, ListingIsHeld}
-use Rattle.fs_chain.specs.HoldsListings.{ListingCallIs, LooksUp, MayEnd, MayFail, ReadsDirectory, calls_left_out}
+use Rattle.fs_chain.specs.HoldsListings.{LeavesOut, ListingIsHeld, ListingCallIs, LooksUp, MayEnd, MayFail, ReadsDirectory, calls_left_out}
 use Rattle.fs_chain.specs.Listings.{AddsTo, EndsByEntries, EndsByError, IsFailedReply, IsListReply, RepliesBy, answered_by}
 use Rattle.fs_chain.specs.Orders.{front_len}
 use Rattle.fs_chain.specs.Walks.{IsAllButPlace}
@@ -38,6 +35,9 @@ use Rattle.fs_chain.proofs.ListingEntries.{BringsEntry, ServedBy, brought, ends_
 use Rattle.fs_chain.proofs.ListingEntries.{unreadable}
 use Rattle.fs_chain.proofs.Replies.{isnt_cut}
 use Rattle.server_phases.specs.declared.listing.NotAdded.TheVariants as not_added
+use Rattle.fs_queue.specs.Taking.{addresses_of, writable}
+use Rattle.fs_chain.specs.HoldsListings.{GathersDecoded}
+use Rattle.fs_chain.proofs.Held.{out_in}
 
 -- ---- the handle's calls
 
@@ -345,14 +345,7 @@ answered s before behind c es list w earlier call answer h out waits fits =
         out = h.out;
         listing = h.listing;
         state = h.state;
-        is_out = record {
-          taken = h.is_out.taken;
-          ring = h.is_out.ring;
-          head = h.is_out.head;
-          request_len = h.is_out.request_len;
-          room_len = h.is_out.room_len;
-          small = h.is_out.small;
-        };
+        is_out = out_in c _ _ h.is_out;
         request = h.request;
         options = h.options;
         session = h.session;

@@ -2,8 +2,7 @@
 use Rattle.std.proofs.Common.{arith, inl, inr, ◌≡◌, ◌≤◌, ◌^◌, ℕ, Bool, true, List, [], length, Option, Some, None}
 use Rattle.std.proofs.Common.{refl, subst, sym, ap, ◌∙◌}
 use Rattle.fs_chain.specs.declared.error.ChainError.{ChainError}
-use Rattle.std.specs.Prelude.{IfOk, Result, Ok, Err}
-use Rattle.std.specs.Prelude.{false, is_some, if◌then◌else◌, not, unwrap_or}
+use Rattle.std.specs.Prelude.{IfOk, Result, Ok, Err, false, is_some, if◌then◌else◌, not, unwrap_or}
 use Rattle.std.proofs.lemmas.Bool.{true≢false}
 use Rattle.vm_iotlb.specs.declared.iova.IovaRange.{IovaRange}
 use Rattle.vm_iotlb.specs.declared.permissions.Permissions.{Permissions}
@@ -22,16 +21,13 @@ use Rattle.fs_regions.specs.declared.step.CourseStep as comes
 use Rattle.fs_regions.specs.declared.step.CourseStep.TheVariants as step
 use Rattle.live_machine.specs.Several.{LiveQueue, event_miss_of}
 use Rattle.live_machine.specs.Several as several
-use Rattle.live_machine.specs.Live.{EndsPopIn, LoadsAreMapped, after_pop, new_chain}
-use Rattle.live_machine.specs.Live.{pop_refusal}
-use Rattle.live_machine.specs.Live.{with_live}
+use Rattle.live_machine.specs.Live.{EndsPopIn, LoadsAreMapped, after_pop, new_chain, pop_refusal, with_live}
 use Rattle.live_machine.proofs.MappedLoads.{more_mapped, none_mapped}
 use Rattle.live_machine.proofs.Queues.{none_some, there_same}
 use Rattle.live_machine.proofs.Refusals.{refusal_stops}
 use Rattle.fs_chain.specs.Events.{event_fault, event_miss}
 use Rattle.fs_chain.specs.Holds.{BeginsAPop, ContinuesAPop, EndsBy, HasPopped, HoldsPop, IsOutAs, IsQueue, KeepsReplyOf, Machine, Pop}
-use Rattle.fs_chain.specs.Holds.{MissesUnless, PopIs}
-use Rattle.fs_chain.specs.Holds.{IsHeldIn, IsPopOf, PopContinues, PopsBy, RefusedBy, live_of, pop_of, queue_with}
+use Rattle.fs_chain.specs.Holds.{MissesUnless, PopIs, IsHeldIn, IsPopOf, PopContinues, PopsBy, RefusedBy, live_of, pop_of, queue_with}
 use Rattle.fs_chain.specs.Loads.{ProceedsSo, whole}
 use Rattle.fs_chain.specs.Orders.{begin_error, give_error, load_len, walk_error}
 use Rattle.fs_chain.specs.Queues.{may_take, pop_id_of}
@@ -89,10 +85,9 @@ refused_stopped s i q q' p new reported why there may stopped reported_is free l
 lacks_stop : (index used avail : Bool) (e : QueueError)
     → (if not index then None else if not used then Some stop.AvailFlagsUnreachable else if not avail then Some stop.UsedUnreachable
     else None) ≡ Some e → stops_queue e ≡ true
-lacks_stop false used avail e is = absurd (none_some e is)
 lacks_stop true false avail e is = ap (λ (x : Option QueueError). stops_queue (unwrap_or x stop.UsedUnreachable)) (sym is)
 lacks_stop true true false e is = ap (λ (x : Option QueueError). stops_queue (unwrap_or x stop.UsedUnreachable)) (sym is)
-lacks_stop true true true e is = absurd (none_some e is)
+lacks_stop _ _ _ e is = absurd (none_some e is)
 
 declined_by : (s : Machine) (q : QueueState) (e : QueueError) (old : ChainHandle) → s.places ≡ places_in old.regions
     → q.stopped ≡ None → event_fault (places_in old.regions) q ≡ Some e → pop_refusal s.places (live_of q) ≡ Some e
@@ -386,9 +381,6 @@ begins old new q q' bytes (outcomes.On reported) free call = λ s i there places
 preserved_items : (w new : ChainHandle) → new.descriptors ≡ w.descriptors → w.descriptors.items ≡ new.descriptors.items
 preserved_items w new same = cc
 
-some_none : (x : Option QueueError) (why : QueueError) → x ≡ Some why → x ≡ None → ⊥
-some_none x why is none = none_some why (sym none ∙ is)
-
 on_unless : (s : Machine) (i : ℕ) (p : Pop) (bytes : List ℕ) (old new : ChainHandle) (q q' : QueueState) (reported : walked.PopOutcome)
     (stopped : Option QueueError) (from : HoldsPop s.limit p old)
     → IsQueue s i q → s.places ≡ places_in old.regions → IsPopOf q p → s.limit ≤ 2 ^ 31 → q.stopped ≡ stopped
@@ -397,7 +389,7 @@ on_unless : (s : Machine) (i : ℕ) (p : Pop) (bytes : List ℕ) (old new : Chai
     → PopContinues s i q q' p old new bytes (outcomes.On reported)
 on_unless s i p bytes old new q q' reported (Some why) from there places index small is finds on = (
   p.loaded,
-  λ none. absurd (some_none q.stopped why is none),
+  λ none. absurd (none_some why (sym none ∙ is)),
   refused_stopped s i q q' p new reported why there finds.1 is on.0 on.1.3 on.2,
 )
 on_unless s i p bytes old new q q' reported None from there places index small is finds on =

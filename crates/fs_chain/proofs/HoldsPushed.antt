@@ -1,7 +1,5 @@
 -- A push of a chain that the handle holds, and its end.
-use Rattle.std.proofs.Common.{◌≡◌, ℕ, Bool, List, ◌++◌, length, Some, None, refl, subst, sym, ap, ◌∙◌}
-use Rattle.std.specs.Prelude.{drop, take}
-use Rattle.std.specs.Prelude.{◌==◌, true}
+use Rattle.std.proofs.Common.{◌≡◌, ℕ, Bool, List, ◌++◌, length, Some, None, refl, subst, sym, ap, ◌∙◌, drop, take, ◌==◌, true}
 use Rattle.std.proofs.Math.Seq.{take-append_seam}
 use Rattle.std.proofs.lemmas.Bool.{and_parts, eqb-true, true≢false}
 use Rattle.fs_queue.specs.Queue.{Queue}
@@ -10,8 +8,7 @@ use Rattle.fs_queue.specs.ReturningView.{stores_of}
 use Rattle.plain_machine.specs.Step.{Exchange}
 use Rattle.live_machine.specs.Several.{returning, seen_at}
 use Rattle.live_machine.specs.Several as several
-use Rattle.live_machine.specs.Live.{Asked, InFlightChain, Own, Phase, PoppedFaulty, PushedWith, room_of}
-use Rattle.live_machine.specs.Live.{room_of_phase}
+use Rattle.live_machine.specs.Live.{Asked, InFlightChain, Own, Phase, PoppedFaulty, PushedWith, room_of, room_of_phase}
 use Rattle.live_machine.proofs.Queues.{none_some, there_same}
 use Rattle.server_phases.specs.declared.session.Session.{Session}
 use Rattle.fs_chain.specs.Events.{notifies_of}
@@ -20,7 +17,7 @@ use Rattle.fs_regions.specs.Places.{Mapped, places_in}
 use Rattle.fs_chain.specs.Orders.{front_len, front_of, has_ring, return_error}
 use Rattle.fs_chain.specs.Rings.{is_same_ring, ring_of}
 use Rattle.fs_chain.specs.declared.ring_place.RingPlace as ring
-use Rattle.fs_chain.specs.declared.ring_place.RingPlace.TheVariants.{Physical, Translated, Unmapped}
+use Rattle.fs_chain.specs.declared.ring_place.RingPlace.TheVariants.{Physical, Translated}
 use Rattle.fs_chain.specs.Pushes.{IfHasReply, PushesBy, put_front}
 use Rattle.fs_chain.specs.Queues.{at_return, gave}
 use Rattle.fs_chain.specs.declared.chain_handle.ChainHandle.{ChainHandle}
@@ -59,17 +56,11 @@ seen_of q k = seen_at (record (live_of q) { queue = k })
 
 same_ring : (a b : ring.RingPlace) → is_same_ring a b ≡ true → a ≡ b
 same_ring Physical Physical is = refl
-same_ring Physical (Translated b) is = absurd (true≢false (sym is))
-same_ring Physical Unmapped is = absurd (true≢false (sym is))
-same_ring (Translated a) Physical is = absurd (true≢false (sym is))
 same_ring (Translated a) (Translated b) is =
     let both = and_parts (a.block == b.block) (a.offset == b.offset) is in
     ap (λ (n : ℕ). Translated (record { block = n; offset = a.offset })) (eqb-true a.block b.block both.0)
     ∙ ap (λ (n : ℕ). Translated (record { block = b.block; offset = n })) (eqb-true a.offset b.offset both.1)
-same_ring (Translated a) Unmapped is = absurd (true≢false (sym is))
-same_ring Unmapped Physical is = absurd (true≢false (sym is))
-same_ring Unmapped (Translated b) is = absurd (true≢false (sym is))
-same_ring Unmapped Unmapped is = absurd (true≢false (sym is))
+same_ring _ _ is = absurd (true≢false (sym is))
 
 -- the queue's rings are where they were when the chain was popped
 ring_stays : (c : InFlightChain) (out : InFlight) (preserved : ChainReply) (g : Mapped) → IsOutAs c out

@@ -1,6 +1,5 @@
 -- What a call that isn't refused tells of its queue.
-use Rattle.std.proofs.Common.{◌≡◌, ℕ, Bool, Some, None, refl, sym, ap, ◌∙◌}
-use Rattle.std.specs.Prelude.{◌==◌, ◌&&◌, false, true, if◌then◌else◌, nat_lt, not}
+use Rattle.std.proofs.Common.{◌≡◌, ℕ, Bool, Some, None, refl, sym, ap, ◌∙◌, ◌==◌, ◌&&◌, false, true, if◌then◌else◌, nat_lt, not}
 use Rattle.std.proofs.lemmas.Bool.{and_parts, eqb-true}
 use Rattle.fs_queue.specs.Queue.{Queue}
 use Rattle.fs_queue.specs.WalkingView.{at_position}

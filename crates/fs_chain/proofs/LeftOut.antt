@@ -1,7 +1,5 @@
 -- The calls of a listing with an entry that isn't added are the first ones that are served.
-use Rattle.std.proofs.Common.{◌≡◌, ℕ, Bool, List, [], ◌∷◌, ◌++◌, length, None, append_assoc}
-use Rattle.std.proofs.Common.{append-nil, refl, sym, ap, ◌∙◌, arith}
-use Rattle.std.specs.Prelude.{◌-◌}
+use Rattle.std.proofs.Common.{◌≡◌, ℕ, Bool, List, [], ◌∷◌, ◌++◌, length, None, append_assoc, append-nil, refl, sym, ap, ◌∙◌, arith, ◌-◌}
 use Rattle.fuse_fs.specs.Calls.{Done, Entries, FileAnswer, FileCall, Forget, HasEntry, Listed, Lookup}
 use Rattle.server_replies.specs.Entries.{EIO, EOVERFLOW}
 use Rattle.virtiofsd_fuse.specs.Grammar.{Asks, Lists}
@@ -110,9 +108,7 @@ module _ (s : Setting) (l : Listing) (unique : ℕ) (a : asked.ListRequest) (lis
       ++ (look_up (Lists unique a) e.0 ++ forget_listed (Lists unique a) e)) is.1
       ∙ ap (λ (k : List FileCall). k ++ (look_up (Lists unique a) e.0 ++ forget_listed (Lists unique a) e))
       (added_served s l unique a list es is holds))
-  left_out_served added.NoRoom left =
-      out_served (ap (λ (k : ServedMessage). k.calls) (left s (Lists unique a) es others (answers_alone back) is holds))
-  left_out_served added.TooLong left =
+  left_out_served _ left =
       out_served (ap (λ (k : ServedMessage). k.calls) (left s (Lists unique a) es others (answers_alone back) is holds))
 
 -- what is said of an entry that isn't added

@@ -1,7 +1,6 @@
 -- A listing whose entries are brought one by one: what was told of each, and what the plain machine's server says of its calls.
-use Rattle.std.proofs.Common.{◌≡◌, ℕ, ◌-◌, ◌≤◌, ◌<◌, Bool, true, false, List, [], ◌∷◌, ◌++◌, length, take, min, Option, Some, None}
-use Rattle.std.proofs.Common.{Result, Ok, Err, inl, inr, refl, subst, sym, ap, ◌∙◌}
-use Rattle.std.proofs.Common.{arith, append-nil, length-append}
+use Rattle.std.proofs.Common.{◌≡◌, ℕ, ◌-◌, ◌≤◌, ◌<◌, Bool, true, false, List, [], ◌∷◌, ◌++◌, length, take, min, Option, Some, None, Result}
+use Rattle.std.proofs.Common.{Ok, Err, inl, inr, refl, subst, sym, ap, ◌∙◌, arith, append-nil, length-append}
 use Rattle.std.specs.Prelude.{◌⊎◌, ◌&&◌, not, nat_lt, if◌then◌else◌}
 use Rattle.std.proofs.lemmas.Bool.{le-ltb, lt-ltb}
 use Rattle.std.proofs.lemmas.List.{length-take, map-append, take_at}
@@ -17,9 +16,8 @@ use Rattle.server_phases.specs.declared.listing.Listing.{Listing}
 use Rattle.server_phases.specs.declared.listing.ListingReply.{ListingReply}
 use Rattle.server_phases.specs.declared.listing.NotAdded as reason
 use Rattle.server_phases.specs.declared.listing.NotAdded.TheVariants as not_added
-use Rattle.server_phases.specs.Gathering.{Brought, EndsList, FailsList, Holds, IsListingFor, added_found, added_plain, all_bytes}
-use Rattle.server_phases.specs.Gathering.{all_found, bytes_of}
-use Rattle.server_phases.specs.Gathering.{entries_of, found_of, is_looked_up, look_up, look_ups, forget_listed, node_of}
+use Rattle.server_phases.specs.Gathering.{Brought, EndsList, FailsList, Holds, IsListingFor, added_found, added_plain, all_bytes, all_found}
+use Rattle.server_phases.specs.Gathering.{bytes_of, entries_of, found_of, is_looked_up, look_up, look_ups, forget_listed, node_of}
 use Rattle.server_phases.proofs.Gathered.{length_entry, listed_all}
 use Rattle.fs_chain.specs.declared.error.ChainError.{ChainError}
 use Rattle.fs_chain.specs.declared.listing.Added.{Added}

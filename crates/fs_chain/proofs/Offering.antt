@@ -1,6 +1,5 @@
 -- What a pop that ended returned is what the memory offers.
-use Rattle.std.proofs.Common.{◌≡◌, ℕ, List, [], Bool, false, true, Option, Some, None, refl, sym, subst, arith}
-use Rattle.std.specs.Prelude.{if◌then◌else◌, slice_get}
+use Rattle.std.proofs.Common.{◌≡◌, ℕ, List, [], Bool, false, true, Option, Some, None, refl, sym, subst, arith, if◌then◌else◌, slice_get}
 use Rattle.fs_queue.specs.declared.fault.QueueError.{QueueError}
 use Rattle.fs_queue.specs.declared.fault.QueueError.TheVariants as stop
 use Rattle.vm_memory_core.specs.Host.{Host}
@@ -65,13 +64,12 @@ module _ (law : OffersAreTheMemorys) (s : Machine) (i : ℕ) (w : LiveQueue) (h 
   ends_so : (came : comes.CourseStep) (request : List ℕ) (after : Machine) → EndsPopIn s i w loaded ds came after
       → HasLoaded (memory_over h regions) w.queue loaded request
       → IsOfferOf ds (reported_of ds came) request (offer (memory_over h regions) s.limit w.queue)
-  ends_so (step.Load walk) request after ends has = absurd ends
-  ends_so (step.Missing range access) request after ends has = absurd ends
   ends_so step.Idle request after ends has = is_offer [] _ ends.0 (unasked (memory_over h regions) w.queue loaded request has)
   ends_so (step.Refused e) request after ends has = is_offer [] _ ends.0 (unasked (memory_over h regions) w.queue loaded request has)
   ends_so (step.Chain head (Some fault)) request after ends has =
       is_offer [] _ ends.0 (unasked (memory_over h regions) w.queue loaded request has)
   ends_so (step.Chain head None) request after ends has = λ len. is_offer request _ (ends.0.1 request len) has
+  ends_so _ request after ends has = absurd ends
 
 pub walks_are_offers : OffersAreTheMemorys → WalksAreOffers
 walks_are_offers law s i q q' loaded new reported h regions request there ends places has =

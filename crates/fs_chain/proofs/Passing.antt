@@ -1,7 +1,6 @@
 -- Windows behind the descriptors that were passed are windows of the whole chain.
-use Rattle.std.proofs.Common.{◌≡◌, ◌∙◌, ℕ, Bool, true, false, ◌+◌, ◌-◌, ◌≤◌, ◌++◌, List, [], ◌∷◌, take, drop, refl, ap, sym, subst}
-use Rattle.std.proofs.Common.{append_assoc, arith}
-use Rattle.std.specs.Prelude.{IfSome, Option, Some, None}
+use Rattle.std.proofs.Common.{◌≡◌, ◌∙◌, ℕ, Bool, true, false, ◌+◌, ◌-◌, ◌≤◌, ◌++◌, List, [], ◌∷◌, take, drop, refl, ap, sym, subst, IfSome}
+use Rattle.std.proofs.Common.{Option, Some, None, append_assoc, arith}
 use Rattle.std.proofs.lemmas.List.{take-append-drop}
 use Rattle.std.proofs.lemmas.List.Sums.{sum_by-append, sum_by-cons}
 use mathlib.Core.Bool.{beq}

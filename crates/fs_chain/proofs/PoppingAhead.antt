@@ -1,7 +1,6 @@
 -- A pop by loads that were made ahead is calls of `pop` one after another.
-use Rattle.std.proofs.Common.{◌≡◌, ◌∙◌, ℕ, ◌<◌, ◌+◌, ◌-◌, ◌++◌, ◌==◌, List, [], ◌∷◌, Bool, true, false, not, Option, Some}
+use Rattle.std.proofs.Common.{◌≡◌, ◌∙◌, ℕ, ◌<◌, ◌+◌, ◌-◌, ◌++◌, ◌==◌, List, [], ◌∷◌, Bool, true, false, not, Option, Some, if◌then◌else◌}
 use Rattle.std.proofs.Common.{None, inl, inr, length, min, ap, refl, sym, subst, arith}
-use Rattle.std.specs.Prelude.{if◌then◌else◌}
 use Rattle.std.proofs.lemmas.Bool.{eq-eqb, and_from}
 use Rattle.smallvec.specs.SmallVec.{SmallVec}
 use Rattle.vm_iotlb.specs.declared.iova.IovaRange.{IovaRange}
@@ -116,11 +115,7 @@ wanted w w' q walk ds l part is =
     (n < asked_len walk)
     × IsWindowAt (location (places_in w.regions) Read) (asked_by walk + n) (asked_len walk - n) v
     × (v.len ≡ min (asked_len walk - n) (left_in (places_in w.regions) (asked_by walk + n))) in
-    let at_start : P 0 = (
-      there,
-      at_zero W (asked_by walk) (asked_len walk) is.1.0,
-      at_zero M (asked_by walk) (asked_len walk) is.1.1,
-    ) in
+    let at_start : P 0 = (there, at_zero W (asked_by walk) (asked_len walk) is.1.0, at_zero M (asked_by walk) (asked_len walk) is.1.1) in
     let here = subst P (sym (ap length part)) at_start in
     (v, (tt, here), is.2, is.3)
 

@@ -1,7 +1,6 @@
 -- The calls of a listing that gathers entries are the first ones that are served.
-use Rattle.std.proofs.Common.{◌≡◌, ℕ, Bool, true, false, not, ◌&&◌, List, [], ◌∷◌, ◌++◌, length, Option, Some, None, append_assoc}
-use Rattle.std.proofs.Common.{refl, sym, ap, ◌∙◌, arith}
-use Rattle.std.specs.Prelude.{◌-◌, nat_lt, if◌then◌else◌}
+use Rattle.std.proofs.Common.{◌≡◌, ℕ, Bool, true, false, not, ◌&&◌, List, [], ◌∷◌, ◌++◌, length, Option, Some, None, append_assoc, ◌-◌}
+use Rattle.std.proofs.Common.{nat_lt, if◌then◌else◌, refl, sym, ap, ◌∙◌, arith}
 use Rattle.std.proofs.lemmas.List.{map-append}
 use Rattle.fuse_fs.specs.Calls.{Entries, FileAnswer, FileCall, HasEntry, Listed, Lookup}
 use Rattle.server_replies.specs.Entries.{is_dot, no_node}
@@ -9,13 +8,11 @@ use Rattle.virtiofsd_fuse.specs.Grammar.{Asks, Lists, Meaning}
 use Rattle.virtiofsd_fuse.specs.Listings as asked
 use Rattle.virtiofsd_fuse.specs.Listings.{ListingResult, after_call, forget_lookup, list_entries, readdir_call, with_entry}
 use Rattle.virtiofsd_fuse.specs.Serving.{Setting, list_ended, replied, served}
-use Rattle.server_phases.specs.Gathering.{Brought, Holds, IsListingFor, all_bytes, all_found, entries_of}
-use Rattle.server_phases.specs.Gathering.{is_looked_up, look_up, look_ups}
+use Rattle.server_phases.specs.Gathering.{Brought, Holds, IsListingFor, all_bytes, all_found, entries_of, is_looked_up, look_up, look_ups}
 use Rattle.server_phases.specs.declared.listing.Listing.{Listing}
 use Rattle.server_phases.proofs.Gathered.{listed_all}
-use Rattle.fs_chain.specs.ListingCalls.{all_looked_up, looked_up}
+use Rattle.fs_chain.specs.ListingCalls.{all_looked_up, looked_up, calls_so_far, next_looked_up}
 use Rattle.plain_machine.specs.Step.{Calls, answers_alone, calls_alone}
-use Rattle.fs_chain.specs.ListingCalls.{calls_so_far, next_looked_up}
 
 -- these calls, with their answers, are the first ones that are served of a meaning
 abbrev pub AreServedFirst : Setting → Meaning → Calls → Type 0
@@ -60,13 +57,11 @@ module _ (unique : ℕ) (a : asked.ListRequest) where
 
 both : (b dot : Bool) → (b && not dot) ≡ true → (b ≡ true) × (dot ≡ false)
 both true false is = (refl, refl)
-both true true is = absurd (cc)
-both false dot is = absurd (cc)
+both _ _ is = absurd (cc)
 
 pick : (b dot : Bool) (x y z : ListingResult) → b ≡ true → dot ≡ false → (if not b then x else if dot then y else z) ≡ z
 pick true false x y z nodes is = refl
-pick true true x y z nodes is = absurd (cc)
-pick false dot x y z nodes is = absurd (cc)
+pick _ _ x y z nodes is = absurd (cc)
 
 -- the first of them is looked up before anything else of it is known
 first_looked : (a : asked.ListRequest) (d : Listed) (others : List Listed) (left room : ℕ) (answers : List FileAnswer)

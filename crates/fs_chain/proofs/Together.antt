@@ -7,8 +7,7 @@ use Rattle.live_machine.proofs.Alone.{all_both, all_left, all_right}
 use Rattle.live_machine.proofs.Queues.{there_other, there_same}
 use Rattle.fs_chain.specs.Holds.{HoldsChain}
 use Rattle.fs_chain.specs.Together.{EachHasOne, FindsOwn, HasNoMore, HasNone, IsHeldBy, IsNot, JoinsOthers, KeepsOthers, LeavesOthers}
-use Rattle.fs_chain.specs.Together.{Owned}
-use Rattle.fs_chain.specs.Together.{with_handle}
+use Rattle.fs_chain.specs.Together.{Owned, with_handle}
 use Rattle.fs_chain.specs.declared.chain_handle.ChainHandle.{ChainHandle}
 
 abbrev pub chains_of : List Owned → List InFlightChain

@@ -1,9 +1,8 @@
 -- What a handle holds of a live run, and what each of its calls does there. A call's contract ensures: for
 -- each state of the live machine in which the handle holds a chain, or none, the call is an event of that
 -- machine, or none; and afterwards the handle holds what the event left.
-use Rattle.std.specs.Prelude.{◌≡◌, ◌⊎◌, ◌≤◌, ◌^◌, ℕ, Bool, List, [], ◌∷◌, ◌++◌, length, take}
-use Rattle.std.specs.Prelude.{drop, false, Option, Some, None}
-use Rattle.std.specs.Prelude.{slice_get}
+use Rattle.std.specs.Prelude.{◌≡◌, ◌⊎◌, ◌≤◌, ◌^◌, ℕ, Bool, List, [], ◌∷◌, ◌++◌, length, take, drop, false}
+use Rattle.std.specs.Prelude.{Option, Some, None, slice_get}
 use Rattle.vm_iotlb.specs.declared.iova.IovaRange.{IovaRange}
 use Rattle.vm_iotlb.specs.declared.permissions.Permissions.{Permissions}
 use Rattle.fs_queue.specs.declared.fault.QueueError.{QueueError}
@@ -36,13 +35,10 @@ use Rattle.plain_machine.specs.Step.{Calls, Exchange, answers_alone, calls_alone
 pub use Rattle.live_machine.specs.Files.{any_files}
 use Rattle.live_machine.specs.Several.{LiveQueue, event_miss_of, returning, seen_at}
 use Rattle.live_machine.specs.Live.{Asked, DecodesRequest, EndsPopSo, Fetched, GivesUpChain, Happens}
-use Rattle.live_machine.specs.Live.{InFlightChain}
-use Rattle.live_machine.specs.Live.{IsUnreplied, RepliesOwnBytes, after_giving_up, after_own}
+use Rattle.live_machine.specs.Live.{InFlightChain, IsUnreplied, RepliesOwnBytes, after_giving_up, after_own}
 use Rattle.live_machine.specs.Live.{LiveState, LoadsAreMapped, Own, Phase, PoppedFaulty, PushedWith}
-use Rattle.live_machine.specs.Live.{PushesChain}
-use Rattle.live_machine.specs.Live.{ReceivesAnswer, RefusesPop, after_answer, after_decoding, after_pop}
-use Rattle.live_machine.specs.Live.{after_push}
-use Rattle.live_machine.specs.Live.{asked_chain, new_chain, pop_refusal}
+use Rattle.live_machine.specs.Live.{PushesChain, ReceivesAnswer, RefusesPop, after_answer, after_decoding}
+use Rattle.live_machine.specs.Live.{after_pop, after_push, asked_chain, new_chain, pop_refusal}
 use Rattle.fs_chain.specs.Decoding.{WaitsForNoListing}
 use Rattle.fs_chain.specs.Loads.{whole}
 use Rattle.fs_chain.specs.Orders.{front_of, reply_len}

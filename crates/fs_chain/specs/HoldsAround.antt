@@ -3,8 +3,7 @@
 use Rattle.std.specs.Prelude.{◌≡◌, ◌⊎◌, ◌≤◌, ℕ, Bool, false, List, [], ◌∷◌, ◌++◌, Option, Some, None}
 use Rattle.std.specs.List.{AllByRecursion}
 use Rattle.fs_regions.specs.Places.{places_in}
-use Rattle.live_machine.specs.Live.{Abandons, Happens, InFlightChain, KeepsQueue, Remaps}
-use Rattle.live_machine.specs.Live.{ResetsQueue}
+use Rattle.live_machine.specs.Live.{Abandons, Happens, InFlightChain, KeepsQueue, Remaps, ResetsQueue}
 use Rattle.live_machine.specs.Live.{StoreIsMapped, StoresNotification, after_abandoning, after_reset}
 use Rattle.live_machine.specs.Live.{pop_refusal}
 use Rattle.live_machine.specs.Several.{HasEventIndex}

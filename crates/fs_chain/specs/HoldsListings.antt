@@ -17,8 +17,7 @@ use Rattle.fs_chain.specs.Holds.{HoldsChain, HoldsUnanswered, IsDecodedIn, IsOut
 use Rattle.fs_chain.specs.Holds.{served_so}
 use Rattle.fs_chain.specs.Orders.{front_of}
 use Rattle.fs_chain.specs.ListingCalls.{Ending, EndsThere, FailsAt, FullAt, NotFound, Unreadable}
-use Rattle.fs_chain.specs.ListingCalls.{calls_so_far}
-use Rattle.fs_chain.specs.ListingCalls.{listing_calls, node_back}
+use Rattle.fs_chain.specs.ListingCalls.{calls_so_far, listing_calls, node_back}
 use Rattle.fs_chain.specs.declared.chain_handle.ChainHandle.{ChainHandle}
 use Rattle.fs_chain.specs.declared.listing.Added.{Added}
 use Rattle.fs_chain.specs.declared.listing.Added.TheVariants as added

@@ -148,8 +148,9 @@ impl ChainHandle {
         window_from(&self.regions, left, write_only, from - passed.bytes)
     }
 
-    // The longest window of one direction of the chain in flight, from byte `from` on.
-    fn window(&self, write_only: bool, from: u64) -> Option<VolatileSlice>
+    /// The longest window of one direction of a chain, the request or the reply buffer, from byte `from` on;
+    /// none past its end, or if that byte isn't mapped, or if no chain is in flight.
+    pub fn window(&self, write_only: bool, from: u64) -> Option<VolatileSlice>
         ensures some { IfSome result
             (IsWindowFrom self.now.regions write_only self.now.descriptors.items from) }
         ensures out { OnSome result (is_out self.now.state ≡ true) }
@@ -166,39 +167,5 @@ impl ChainHandle {
             return None;
         }
         window_from(&self.regions, &self.descriptors, write_only, from)
-    }
-
-    /// The longest window of a chain's request from byte `from` on; none past its end, or if that byte isn't
-    /// mapped, or if no chain is in flight.
-    pub fn request_window(&self, from: u64) -> Option<VolatileSlice>
-        ensures some { IfSome result (IsWindowFrom self.now.regions false self.now.descriptors.items from) }
-        ensures out { OnSome result (is_out self.now.state ≡ true) }
-        ensures none { result ≡ None
-            → is_out self.now.state ≡ true
-            → all_reach (places_in self.now.regions) (access_of false)
-            (of_direction false self.now.descriptors.items) ≡ true
-            → total_len (of_direction false self.now.descriptors.items) ≤ from }
-        ensures unmapped { result ≡ None
-            → is_out self.now.state ≡ true
-            → HasNoWindowFrom self.now.regions false self.now.descriptors.items from }
-    {
-        self.window(false, from)
-    }
-
-    /// The longest window of a chain's reply buffer from byte `from` on; none past its end, or if that byte
-    /// isn't mapped, or if no chain is in flight.
-    pub fn room_window(&self, from: u64) -> Option<VolatileSlice>
-        ensures some { IfSome result (IsWindowFrom self.now.regions true self.now.descriptors.items from) }
-        ensures out { OnSome result (is_out self.now.state ≡ true) }
-        ensures none { result ≡ None
-            → is_out self.now.state ≡ true
-            → all_reach (places_in self.now.regions) (access_of true)
-            (of_direction true self.now.descriptors.items) ≡ true
-            → total_len (of_direction true self.now.descriptors.items) ≤ from }
-        ensures unmapped { result ≡ None
-            → is_out self.now.state ≡ true
-            → HasNoWindowFrom self.now.regions true self.now.descriptors.items from }
-    {
-        self.window(true, from)
     }
 }

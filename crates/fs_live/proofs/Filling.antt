@@ -1,7 +1,6 @@
 -- The data that a caller stores in a reply buffer.
 use Rattle.std.proofs.Common.{arith, ◌≡◌, ◌≤◌, ◌+◌, ◌-◌, ℕ, zero, suc, List, [], ◌∷◌, append-nil, length, map, take, drop, zip, Option}
-use Rattle.std.proofs.Common.{Some, None, refl, subst, sym, ap, ◌∙◌, take-append-drop}
-use Rattle.std.specs.Prelude.{option_and_then, option_map}
+use Rattle.std.proofs.Common.{option_and_then, option_map, Some, refl, subst, sym, ap, ◌∙◌, take-append-drop}
 use Rattle.std.specs.List.{AllByRecursion, Contains}
 use Rattle.std.proofs.lemmas.List.{take-take, take_at}
 use Rattle.std.proofs.lemmas.List.Elements.{Contains-append_left, Contains-append_right}
@@ -40,12 +39,11 @@ each_in (a ∷ xs) target there = (
 each_stored : (as' xs target : List ℕ) → ((a : ℕ) → Contains as' a → Contains target a) →
     AllByRecursion (IsStoredIn target) (map byte_store (zip as' xs))
 unfolding addresses
-each_stored [] xs target there = tt
-each_stored (a ∷ as') [] target there = tt
 each_stored (a ∷ as') (x ∷ xs) target there = (
   (there a (Contains-append_left (a ∷ []) as' a (0, omega arith, refl)), tt),
   each_stored as' xs target (λ b in_rest. there b (Contains-append_right (a ∷ []) as' b in_rest)),
 )
+each_stored _ _ target there = tt
 
 room_is : (p : Phase) (ds : List Descriptor) → HasRoom p → room_of_phase p ds ≡ addresses_of (writable ds)
 room_is (PoppedFaulty why) ds has = absurd has
@@ -58,11 +56,10 @@ located_step : (n : ℕ) (f : ℕ → Option Place) (p : Option Place) (rest fro
     → ((qs : List Place) → rest ≡ Some qs → front ≡ Some (take n qs))
     → option_and_then (λ q. option_map (λ qs. q ∷ qs) rest) p ≡ Some ps
     → option_and_then (λ q. option_map (λ qs. q ∷ qs) front) p ≡ Some (take (suc n) ps)
-located_step n f None rest front ps more is = cc
-located_step n f (Some q) None front ps more is = cc
 located_step n f (Some q) (Some qs) front ps more is =
     ap (λ (r : Option (List Place)). option_map (λ ks. q ∷ ks) r) (more qs refl)
     ∙ ap (λ (ks : List Place). Some (take (suc n) ks)) (same_some (q ∷ qs) ps is)
+located_step n f _ _ front ps more is = cc
 
 located_front : (n : ℕ) (xs : List ℕ) (f : ℕ → Option Place) (ps : List Place) → located f xs ≡ Some ps →
     located f (take n xs) ≡ Some (take n ps)

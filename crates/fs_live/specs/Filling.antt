@@ -11,8 +11,7 @@ use Rattle.virtiofsd_fuse.specs.Serving.{May}
 use Rattle.fs_chain.specs.declared.chain_handle.ChainHandle.{ChainHandle}
 use Rattle.plain_machine.specs.StepBy.{byte_store}
 use Rattle.live_machine.specs.Live.{Abandoned, FillsBuffer, Happens, LiveState, InFlightChain, Phase}
-use Rattle.live_machine.specs.Live.{PoppedFaulty}
-use Rattle.live_machine.specs.Live.{room_of}
+use Rattle.live_machine.specs.Live.{PoppedFaulty, room_of}
 use Rattle.live_machine.specs.Runs.{reported_by}
 
 -- a chain that has its reply buffer still: it isn't faulty, and its handle wasn't freed

@@ -1,7 +1,6 @@
 -- Drops and returns of chains in flight.
 use Rattle.std.proofs.Common.{arith, ◌≡◌, ℕ, ◌+◌, ◌-◌, ◌%◌, ◌^◌, ◌<◌, ◌==◌, ◌&&◌, ◌||◌, Bool, true, false, not, Some, None, refl, sym, ap}
-use Rattle.std.proofs.Common.{subst, ◌∙◌}
-use Rattle.std.specs.Prelude.{nat_lt, nat_le, if◌then◌else◌}
+use Rattle.std.proofs.Common.{nat_lt, nat_le, if◌then◌else◌, subst, ◌∙◌}
 use Rattle.std.proofs.lemmas.Bool.Decides.{nat_tests}
 use Rattle.fs_chain.specs.declared.error.ChainError.TheVariants.{ChainInFlight, OtherQueue, WrongOrder}
 use Rattle.fs_chain.specs.declared.queue.QueueState.{QueueState}

@@ -1,9 +1,8 @@
 -- Returns, as the giver's steps.
 use Rattle.std.proofs.Common.{◌≡◌, ℕ, ◌+◌, ◌^◌, ◌<◌, ◌==◌, ◌||◌, Bool, true, false, not, List, [], ◌∷◌, refl, sym, ap, ◌∙◌, if◌then◌else◌}
-use Rattle.std.proofs.Common.{arith, ◌≤◌, ◌&&◌, subst}
+use Rattle.std.proofs.Common.{nat_le, nat_lt, arith, ◌≤◌, ◌&&◌, subst}
 use Rattle.std.specs.Int.{w16, w32, to_le_bytes, from_le_bytes}
 use Rattle.std.proofs.lemmas.Bool.Decides.{nat_tests}
-use Rattle.std.specs.Prelude.{nat_le, nat_lt}
 use Rattle.fs_queue.specs.Queue.{element_at}
 use Rattle.fs_queue.specs.Returning.{notifies}
 use Rattle.fs_chain.specs.Orders.{reply_len}

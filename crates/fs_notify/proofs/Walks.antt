@@ -13,7 +13,7 @@ use Rattle.fs_queue.specs.declared.layout.QueueLayout.{QueueLayout}
 use Rattle.fs_queue.specs.declared.fault.ChainFault.{ChainFault}
 use Rattle.fs_queue.specs.declared.fault.QueueError.TheVariants.{AvailFlagsUnreachable, AvailIndexUnreachable, RingEntryUnreachable}
 use Rattle.fs_queue.specs.declared.fault.QueueError.TheVariants.{HeadOutOfTable, UsedUnreachable}
-use Rattle.fs_queue.specs.Chain.{Found, StopsQueue}
+use Rattle.fs_queue.specs.Chain.{Found, StopsQueue, Descriptor}
 use Rattle.fs_queue.specs.Queue.{Queue as Ring, avail_index_at, element_at, index_at, ring_entry_at}
 use Rattle.fs_queue.specs.NextAvail.{NextAvail, Idle, Head, Refused, next_avail}
 use Rattle.fs_queue.specs.Loads.{Load, holding, index_load, entry_load, asks_entry, is_whole, chain_exactly}
@@ -23,7 +23,6 @@ use Rattle.fs_queue.specs.Taking as taking
 use Rattle.fs_queue.specs.Taking.{Offer, RequestAndRoom, offer_of}
 use Rattle.fs_queue.proofs.RingLemmas.{IsPair, entry_reports, index_lost, index_reports, pick}
 use Rattle.fs_queue.specs.Taking.{total_len, readable, writable, addresses_of, IsRequest, CannotFetch, Offers}
-use Rattle.fs_queue.specs.Chain.{Descriptor}
 use Rattle.fs_regions.specs.declared.step.CourseStep as comes
 use Rattle.fs_regions.specs.declared.step.CourseStep.TheVariants as step
 use Rattle.fs_regions.specs.Walks.{FetchesBy, Loaded, OffersBy}
@@ -32,7 +31,6 @@ use Rattle.live_machine.specs.Several.{LiveQueue, in_flight, took}
 use Rattle.live_machine.specs.Several as several
 use Rattle.live_machine.proofs.Queues.{there_same}
 use Rattle.fs_chain.specs.declared.queue.QueueState.{QueueState}
-use Rattle.fs_chain.specs.declared.popping.PopOutcome as walked
 use Rattle.fs_chain.specs.declared.popping.PopOutcome.TheVariants as shows
 use Rattle.fs_chain.specs.Holds.{IsQueue, Machine, live_of}
 use Rattle.fs_chain.specs.Queues.{may_take}
@@ -184,13 +182,12 @@ begins : (l : QueueLayout) (position : ℕ) → avail_index_at (at_position l po
 begins l position = omega (arith, l.available)
 
 offers_at : (w : NextAvail) (o : Offer) (n : ℕ) → IsBy w o → WaitsBy w n → OffersAt o n
-offers_at Idle taking.Idle n by h = h
 offers_at (Head k) taking.Idle n by h = cc
 offers_at (Refused e) taking.Idle n by h = cc
 offers_at Idle (Offers head fetched) n by h = absurd by
-offers_at (Head k) (Offers head fetched) n by h = h
 offers_at (Refused e) (Offers head fetched) n by h = absurd by
 offers_at w (taking.Refuses e) n by h = tt
+offers_at _ _ n by h = h
 
 lost_entry : (entry : Option (List ℕ)) (w : NextAvail) (o : Offer) → without_entry entry (Refused AvailIndexUnreachable) ≡ Some w →
     IsBy w o → IsNoRefusal o → ⊥
@@ -328,14 +325,10 @@ takes m i before after loaded new reported s counted taken there ends is walker 
 
 -- ---- none is found
 
-abbrev IsIdle : walked.PopOutcome → Type 0
-IsIdle shows.Idle = Unit {0}
-IsIdle _ = ⊥
-
 idle_is : (ds : List Descriptor) (came : comes.CourseStep) → shows.Idle ≡ reported_of ds came → came ≡ step.Idle
 idle_is ds step.Idle e = refl
-idle_is ds (step.Chain h None) e = absurd (subst IsIdle e tt)
-idle_is ds _ e = absurd (subst IsIdle e tt)
+idle_is ds (step.Chain h None) e = cc
+idle_is ds _ e = cc
 
 same_index : (i p : ℕ) → i ≡ p → (i == p) ≡ true
 same_index i p is = grind (arith, nat_tests, is)

@@ -31,15 +31,8 @@ rearms_so q s true e counted is walker = (
   rw e (from_le_bytes-to_le_bytes_2 q.next_avail counted.0 ∙ sym is.0),
   is,
 )
-rearms_so q s false e counted is walker = (
-  record { address = q.layout.used; bytes = to_le_bytes w16 0 },
-  rw e refl,
-  rw e refl,
-  ap walks walker,
-  refl,
-  rw e refl,
-  is,
-)
+rearms_so q s false e counted is walker =
+    (record { address = q.layout.used; bytes = to_le_bytes w16 0 }, rw e refl, rw e refl, ap walks walker, refl, rw e refl, is)
 
 pub rearms : RearmsByStore
 rearms q s counted is walker = rearms_so q s q.event_index refl counted is walker

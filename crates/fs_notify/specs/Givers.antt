@@ -17,8 +17,7 @@ use Rattle.fs_chain.specs.Events.{notifies_of}
 use Rattle.fs_chain.specs.Queues.{at_return, gave}
 use Rattle.fs_chain.specs.Pushes.{PushesBy}
 use Rattle.notify.specs.Kicks.{Rules, right, NotifyState, Publishes, IndexArrives, ChecksWish, Runs, ahead}
-use Rattle.notify.specs.Kicks.{moved}
-use Rattle.notify.specs.Kicks.{must, after}
+use Rattle.notify.specs.Kicks.{moved, must, after}
 use Rattle.fs_notify.specs.Takers.{ShowsWish, ways_of}
 
 -- the rules that a device keeps when it returns chains to this queue

@@ -3,8 +3,7 @@
 -- The model's queue has two memory cells that the device writes for the driver: `event` and `muted`. With the
 -- event index the first is avail_event, and the second means nothing; without it the second is bit 0 of the
 -- used ring's flags (VIRTIO 1.2, 2.7.10).
-use Rattle.std.specs.Prelude.{◌≡◌, ℕ, ◌^◌, ◌<◌, Bool, true, false, IsTrue, List, [], ◌∷◌, Option, Some}
-use Rattle.std.specs.Prelude.{None}
+use Rattle.std.specs.Prelude.{◌≡◌, ℕ, ◌^◌, ◌<◌, Bool, true, false, IsTrue, List, [], ◌∷◌, Option, Some, None}
 use Rattle.std.specs.Int.{w16, from_le_bytes}
 use Rattle.fs_queue.specs.Queue.{has_bit}
 use Rattle.fs_queue.specs.Returning.{Store}

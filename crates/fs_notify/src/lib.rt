@@ -20,8 +20,7 @@
 
 ghost use Rattle.fs_notify.specs.Givers.{ChecksBySeen, MachineChecks, PublishesByStore, ReturnsInOrder};
 ghost use Rattle.fs_notify.specs.Takers.{RearmsByStore, DropIsAnAct, FindsNoneByPop, FullIsAnAct};
-ghost use Rattle.fs_notify.specs.Takers.{MutesByStore, ReturnIsAnAct};
-ghost use Rattle.fs_notify.specs.Takers.{SleepsInOrder, TakesByPop};
+ghost use Rattle.fs_notify.specs.Takers.{MutesByStore, ReturnIsAnAct, SleepsInOrder, TakesByPop};
 
 /// The acts of a thread that holds the queue's lock: a call's result allows the act, and the call makes
 /// it. Of a pop that is the call that ends it, by what `pop` ensures of that call (`EndsBy` in `fs_chain`).

@@ -23,15 +23,10 @@ use Rattle.plain_machine.specs.StepBy.{StepOfBy, ExchangesBy, Effects, AnswersBy
 use Rattle.plain_machine.specs.StepBy.{offered_by}
 use Rattle.live_machine.specs.Several.{LiveQueue}
 use Rattle.live_machine.specs.Live.{Phase, PoppedFaulty, Fetched, Asked, Own, Abandoned, InFlightChain, LiveState, LiveEvent, EndsPop}
-use Rattle.live_machine.specs.Live.{RefusesPop}
-use Rattle.live_machine.specs.Live.{DecodesRequest, ReceivesAnswer}
-use Rattle.live_machine.specs.Live.{PushesChain}
-use Rattle.live_machine.specs.Live.{StoresNotification, ResetsQueue, FillsBuffer, GivesUpChain, Abandons, RepliesOwnBytes}
-use Rattle.live_machine.specs.Live.{Happens}
-use Rattle.live_machine.specs.Live.{IsMappedEntry, IsUnreplied, LoadsAreMapped}
-use Rattle.live_machine.specs.Live.{LiveRun, EndsPopIn}
-use Rattle.live_machine.specs.Live.{PushedWith, abandoned_chain, new_chain, fault_of_phase, own_exchange, room_of_phase, room_of, calls_in}
-use Rattle.live_machine.specs.Live.{serving}
+use Rattle.live_machine.specs.Live.{RefusesPop, DecodesRequest, ReceivesAnswer, PushesChain, StoresNotification, ResetsQueue, FillsBuffer}
+use Rattle.live_machine.specs.Live.{GivesUpChain, Abandons, RepliesOwnBytes, Happens, IsMappedEntry, IsUnreplied, LoadsAreMapped, LiveRun}
+use Rattle.live_machine.specs.Live.{EndsPopIn, PushedWith, abandoned_chain, new_chain, fault_of_phase, own_exchange, room_of_phase, room_of}
+use Rattle.live_machine.specs.Live.{calls_in, serving}
 use Rattle.live_machine.specs.Runs.{OwnIsReturned, ReturnedIsStepBy, IsAStep, IsAskedIn, IsBefore, IsServedPhase, after_alone, chain_loads}
 use Rattle.live_machine.specs.Runs.{options_left}
 
@@ -298,11 +293,7 @@ exchange_of {G} other m files places i q loaded ds head (Asked request asked cal
     offers_over m.memory places at m.limit q loaded request (Offers head (IsRequest request room)) (walked.0.1 request walked.1) in
     let made : AnswersBy other m i q head request room calls x (notifies seen) (effects_of c x last seen) (after_alone m c files) = record {
       given = serving m.page_size asked asked request room calls;
-      serves = record {
-        gives = ap (λ (o : ℕ). serving m.page_size o o request room calls) (sym options);
-        asks = proceeds.0;
-        run = run;
-      };
+      serves = record { gives = ap (λ (o : ℕ). serving m.page_size o o request room calls) (sym options); asks = proceeds.0; run = run };
       returns = record {
         exchange = proceeds.1;
         flags = seen;

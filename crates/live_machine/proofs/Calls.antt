@@ -7,9 +7,7 @@ use Rattle.fs_regions.specs.Walks.{Loaded}
 use Rattle.fuse_fs.specs.Calls.{FileRun}
 use Rattle.virtiofsd_fuse.specs.Serving.{May}
 use Rattle.live_machine.specs.Several.{LiveQueue}
-use Rattle.live_machine.specs.Live.{LiveState, LiveEvent, EndsPop, ReceivesAnswer}
-use Rattle.live_machine.specs.Live.{HasEffect}
-use Rattle.live_machine.specs.Live.{Happens, EndsPopIn, calls_among}
+use Rattle.live_machine.specs.Live.{LiveState, LiveEvent, EndsPop, ReceivesAnswer, HasEffect, Happens, EndsPopIn, calls_among}
 use Rattle.live_machine.specs.Runs.{CallsAreARun}
 
 walk_files : {F : Type 0} (s after : LiveState F) (i : ℕ) (w : LiveQueue) (loaded : Loaded) (ds : List Descriptor)

@@ -1,6 +1,5 @@
 -- What a queue has whose pops aren't refused.
-use Rattle.std.proofs.Common.{◌≡◌, ℕ, Bool, Some, None, refl, sym}
-use Rattle.std.specs.Prelude.{true, false, not, if◌then◌else◌}
+use Rattle.std.proofs.Common.{◌≡◌, ℕ, Bool, Some, None, refl, sym, true, false, not, if◌then◌else◌}
 use Rattle.std.proofs.lemmas.Bool.{true≢false}
 use Rattle.vm_iotlb.specs.declared.permissions.Permissions.TheVariants.{Read, Write}
 use Rattle.vm_memory.specs.Memory.{Memory, reach}

@@ -1,7 +1,6 @@
 -- Each call of a chain is the one that waits behind those before it.
-use Rattle.std.proofs.Common.{◌≡◌, ℕ, zero, suc, Bool, List, [], ◌∷◌, ◌++◌, length, take, Option, Some, None, append_assoc}
-use Rattle.std.proofs.Common.{refl, sym, ap, ◌∙◌}
-use Rattle.std.specs.Prelude.{◌-◌, true, false, not, nat_lt, if◌then◌else◌}
+use Rattle.std.proofs.Common.{◌≡◌, ℕ, zero, suc, Bool, List, [], ◌∷◌, ◌++◌, length, take, Option, Some, None, append_assoc, ◌-◌, true}
+use Rattle.std.proofs.Common.{false, not, nat_lt, if◌then◌else◌, refl, sym, ap, ◌∙◌}
 use Rattle.std.proofs.lemmas.List.{map-append}
 use Rattle.fuse_fs.specs.declared.answers.Context.{Context}
 use Rattle.fuse_fs.specs.declared.answers.Entry.{Entry}
@@ -10,7 +9,7 @@ use Rattle.fuse_fs.specs.Calls as file
 use Rattle.server_calls.specs.Requests.{entry_node, forget_node, forget_entry, options_after}
 use Rattle.server_replies.specs.Entries.{Fit, FitsIn, entry_bytes, entry_len, fit_of, is_dot, no_node}
 use Rattle.server_replies.specs.WholeReplies.{error_bytes, listing_bytes}
-use Rattle.virtiofsd_fuse.specs.Grammar.{Meaning, IsFault, Replies, IsSilent, Asks, One, Starts, Lists}
+use Rattle.virtiofsd_fuse.specs.Grammar.{Meaning, Replies, Asks, One, Starts, Lists}
 use Rattle.virtiofsd_fuse.specs.Listings.{ListRequest, Next, ListingResult, after_call, list_entries, looked_up, placed, readdir_call}
 use Rattle.virtiofsd_fuse.specs.Listings.{forget_lookup, with_entry}
 use Rattle.virtiofsd_fuse.specs.Serving.{Setting, answer_bytes, list_answered, replied, served, start_answered, start_options, undone}
@@ -154,10 +153,7 @@ undone_short false undo n short = refl
 -- the calls by some answers are the first ones of those by more answers: one more than the answers are, or fewer
 pub served_leads : (s : Setting) (m : Meaning) (few more : List FileAnswer) →
     (served s m few).calls ≡ take (suc (length few)) (served s m (few ++ more)).calls
-served_leads s (IsFault fault) few more = refl
 served_leads s (Replies bytes) few more = same_reply s.room [] s.options bytes (suc (length few)) refl
-served_leads s IsSilent few more = refl
-served_leads s (Asks (One unique call)) [] [] = refl
 served_leads s (Asks (One unique call)) [] (a ∷ more) =
     let bytes = answer_bytes unique call a in
     same_first s.room call (undone s.room bytes (forget_entry call a)) (options_after s.options call) bytes
@@ -166,15 +162,14 @@ served_leads s (Asks (One unique call)) (a ∷ few) more =
     same_reply s.room (call ∷ undone s.room bytes (forget_entry call a)) (options_after s.options call) bytes (suc (suc (length few)))
     (ap (λ (cs : List FileCall). call ∷ cs)
     (undone_short (nat_lt s.room (length bytes)) (forget_entry call a) (length few) (back_short call a (length few))))
-served_leads s (Asks (Starts unique capable readahead)) [] [] = refl
 served_leads s (Asks (Starts unique capable readahead)) [] (a ∷ more) =
     same_first s.room (Init capable) [] (start_options s.options capable a) (start_answered s.page_size unique capable readahead a)
 served_leads s (Asks (Starts unique capable readahead)) (a ∷ few) more =
     same_reply s.room (Init capable ∷ []) (start_options s.options capable a) (start_answered s.page_size unique capable readahead a)
     (suc (suc (length few))) refl
-served_leads s (Asks (Lists unique l)) [] [] = refl
 served_leads s (Asks (Lists unique l)) [] (a ∷ more) = list_first s unique l a more
 served_leads s (Asks (Lists unique l)) (a ∷ few) more = list_more s unique l a few more
+served_leads s _ _ _ = refl
 
 take_front : (earlier : Calls) (call : FileCall) (calls : List FileCall) →
     take (suc (length (answers_alone earlier))) (calls_alone earlier ++ call ∷ calls) ≡ calls_alone earlier ++ call ∷ []

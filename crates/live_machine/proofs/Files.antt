@@ -7,8 +7,7 @@ use Rattle.fs_regions.specs.Walks.{Loaded}
 use Rattle.virtiofsd_fuse.specs.Serving.{May}
 use Rattle.live_machine.specs.Files.{RunsOverFiles, any_files, over}
 use Rattle.live_machine.specs.Several.{LiveQueue}
-use Rattle.live_machine.specs.Live.{Abandons, DecodesRequest, EndsPop, EndsPopIn, FillsBuffer, GivesUpChain, Happens, LiveEvent}
-use Rattle.live_machine.specs.Live.{HasEffect}
+use Rattle.live_machine.specs.Live.{Abandons, DecodesRequest, EndsPop, EndsPopIn, FillsBuffer, GivesUpChain, Happens, LiveEvent, HasEffect}
 use Rattle.live_machine.specs.Live.{LiveState, MovesDevice, PushesChain, ReceivesAnswer, RefusesPop, Remaps, RepliesOwnBytes, ResetsQueue}
 use Rattle.live_machine.specs.Live.{SetsOptions, StoresNotification}
 
@@ -53,7 +52,6 @@ module _ {F : Type 0} (may : May F) where
     reports = h.reports;
     state = ap (λ (k : LiveState (Unit {0})). over k files) h.state;
   }
-  happens s after files (ReceivesAnswer c call answer) isnt h = absurd isnt
   happens s after files (PushesChain c x notice last used seen) isnt h = record {
     before = h.before;
     behind = h.behind;
@@ -98,12 +96,8 @@ module _ {F : Type 0} (may : May F) where
     is_last = h.is_last;
     state = ap (λ (k : LiveState (Unit {0})). over k files) h.state;
   }
-  happens s after files (Abandons c) isnt h = record {
-    before = h.before;
-    behind = h.behind;
-    out = h.out;
-    state = ap (λ (k : LiveState (Unit {0})). over k files) h.state;
-  }
+  happens s after files (Abandons c) isnt h =
+      record { before = h.before; behind = h.behind; out = h.out; state = ap (λ (k : LiveState (Unit {0})). over k files) h.state }
   happens s after files (RepliesOwnBytes c request reply options) isnt h = record {
     before = h.before;
     behind = h.behind;
@@ -113,7 +107,6 @@ module _ {F : Type 0} (may : May F) where
     counts = h.counts;
     state = ap (λ (k : LiveState (Unit {0})). over k files) h.state;
   }
-  happens s after files (HasEffect call answer) isnt h = absurd isnt
   happens s after files (SetsOptions options) isnt h = record { state = ap (λ (k : LiveState (Unit {0})). over k files) h.state }
   happens s after files (Remaps m) isnt h =
       record { keeps = h.keeps; state = ap (λ (k : LiveState (Unit {0})). over k files) h.state }
@@ -124,6 +117,7 @@ module _ {F : Type 0} (may : May F) where
     few = h.few;
     state = ap (λ (k : LiveState (Unit {0})). over k files) h.state;
   }
+  happens s after files _ isnt h = absurd isnt
 
   pub runs_over_files : RunsOverFiles may
   runs_over_files s after [] files left run calls =

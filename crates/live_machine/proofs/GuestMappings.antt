@@ -1,6 +1,5 @@
 -- A memory that has the mappings of a run keeps them, and all stores of the run are over them.
-use Rattle.std.proofs.Common.{◌≡◌, ℕ, List, [], ◌∷◌, ◌++◌, flat_map, refl, subst, sym, ap, ◌∙◌}
-use Rattle.std.specs.Prelude.{not, ◌==◌}
+use Rattle.std.proofs.Common.{◌≡◌, ℕ, List, [], ◌∷◌, ◌++◌, flat_map, refl, subst, sym, ap, ◌∙◌, not, ◌==◌}
 use Rattle.std.specs.List.{AllByRecursion}
 use Rattle.std.proofs.lemmas.List.Concat.{flat_map-append}
 use Rattle.vm_memory.specs.Memory.{Memory, stored, stored_all}
@@ -15,12 +14,9 @@ use Rattle.plain_machine.proofs.PageLemmas.{ways_stay}
 use Rattle.live_machine.specs.Guest.{HasMappings, StaysThere, after_event, after_stores_over, mappings_of, over_mappings}
 use Rattle.live_machine.specs.Several.{LiveQueue}
 use Rattle.live_machine.specs.Live.{Abandons, DecodesRequest, EndsPop, EndsPopIn, FillsBuffer, GivesUpChain, Happens, InFlightChain}
-use Rattle.live_machine.specs.Live.{HasEffect}
-use Rattle.live_machine.specs.Live.{LiveEvent}
-use Rattle.live_machine.specs.Live.{LiveState, MovesDevice, Own, PushesChain, ReceivesAnswer, RefusesPop, Remaps, RepliesOwnBytes}
-use Rattle.live_machine.specs.Live.{ResetsQueue}
-use Rattle.live_machine.specs.Live.{SetsOptions}
-use Rattle.live_machine.specs.Live.{StoresNotification, abandoned_chain, asked_chain, event_acts, new_chain, room_of}
+use Rattle.live_machine.specs.Live.{HasEffect, LiveEvent, LiveState, MovesDevice, Own, PushesChain, ReceivesAnswer, RefusesPop, Remaps}
+use Rattle.live_machine.specs.Live.{RepliesOwnBytes, ResetsQueue, SetsOptions, StoresNotification, abandoned_chain, asked_chain, event_acts}
+use Rattle.live_machine.specs.Live.{new_chain, room_of}
 use Rattle.live_machine.proofs.Alone.{all_both, all_filter, all_left, all_right}
 use Rattle.live_machine.proofs.Stored.{among_return, among_stores}
 

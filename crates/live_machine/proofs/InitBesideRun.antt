@@ -1,15 +1,10 @@
 -- INIT beside a chain that waits.
-use Rattle.std.proofs.Common.{◌≡◌, ℕ, Bool, List, [], ◌∷◌, length, Some, None, refl, ap}
-use Rattle.std.specs.Prelude.{◌==◌, true, option_map, if◌then◌else◌}
-use Rattle.std.proofs.lemmas.List.Elements.{All-nil}
+use Rattle.std.proofs.Common.{[], ◌∷◌, None, refl}
 use Rattle.vm_values.specs.Fields as fields
 use Rattle.vm_memory.specs.Layout.{place}
 use Rattle.vm_memory.specs.Memory.{addresses, stored_all}
 use Rattle.fs_queue.specs.Loads.{found_exactly}
-use Rattle.fs_queue.specs.Taking.{Offers, IsRequest}
-use Rattle.fs_regions.specs.declared.step.CourseStep.TheVariants as step
-use Rattle.fs_regions.specs.Walks.{FetchesBy, OffersBy, IsLost}
-use Rattle.fuse_fs.specs.Calls.{Failed, Wants}
+use Rattle.fs_regions.specs.Walks.{FetchesBy}
 use Rattle.server_replies.specs.WholeReplies.{error_bytes, reply_bytes, started_bytes}
 use Rattle.server_requests.specs.Fronts.{counted}
 use Rattle.server_requests.specs.Reading.{record_parser, last_name}
@@ -17,196 +12,52 @@ use Rattle.virtiofsd_fuse.specs.Examples.{le16}
 use Rattle.virtiofsd_fuse.specs.Grammar.{meaning, meant, row}
 use Rattle.virtiofsd_fuse.specs.Serving.{May}
 use Rattle.plain_machine.specs.Examples.{blank, queue}
-use Rattle.live_machine.specs.Live.{DecodesRequestSo, ReceivesAnswerSo, PushesChainSo, EndsPopSo, LoadsAreMapped}
+use Rattle.live_machine.specs.Live.{LoadsAreMapped}
 use Rattle.live_machine.specs.Overlap.{at_positions, state}
-use Rattle.live_machine.specs.InitBeside.{
-  InitBeside,
-  first,
-  first_answered,
-  first_asked,
-  first_exchange,
-  first_loads,
-  first_table,
-  first_used,
-  init,
-  lookup,
-  looks,
-  second,
-  second_answered,
-  second_asked,
-  second_exchange,
-  second_loads,
-  second_table,
-  second_used,
-  starts,
-}
-use Rattle.live_machine.proofs.OverlapRun.{some_none}
-
-first_offers : (request : List ℕ) → length request ≡ 42 →
-    OffersBy blank 0x101000 queue first_loads request (Offers 0 (IsRequest request (addresses 0x2000 144)))
-unfolding place addresses stored_all found_exactly
-first_offers request whole = (
-  (λ none. absurd (some_none (le16 2) none), λ none asks. absurd (some_none (le16 0) none)),
-  [],
-  All-nil (IsLost blank),
-  ap (λ (b : Bool). option_map (Offers 0) (if b then Some (IsRequest request (addresses 0x2000 144)) else None))
-      (ap (λ (n : ℕ). n == 42) whole),
-)
+use Rattle.live_machine.specs.InitBeside.{InitBeside, first, first_answered, first_asked, first_loads, first_table, init, lookup, second}
+use Rattle.live_machine.specs.InitBeside.{second_answered, second_asked, second_loads, second_table}
+use Rattle.live_machine.proofs.OverlapRun.{answers, fetches, returns}
 
 first_fetches : FetchesBy blank 0x101000 queue first_loads first_table 0 None
 unfolding place addresses stored_all found_exactly
-first_fetches = (([], All-nil (IsLost blank), refl), first_offers)
-
-second_offers : (request : List ℕ) → length request ≡ 56 →
-    OffersBy blank 0x101000 (record queue { position = 1 }) second_loads request (Offers 2 (IsRequest request (addresses 0x4000 80)))
-unfolding place addresses stored_all found_exactly
-second_offers request whole = (
-  (λ none. absurd (some_none (le16 2) none), λ none asks. absurd (some_none (le16 2) none)),
-  [],
-  All-nil (IsLost blank),
-  ap (λ (b : Bool). option_map (Offers 2) (if b then Some (IsRequest request (addresses 0x4000 80)) else None))
-      (ap (λ (n : ℕ). n == 56) whole),
-)
+first_fetches = fetches queue first_loads first_table 0 (le16 2) (le16 0) refl refl refl (λ request. refl)
 
 second_fetches : FetchesBy blank 0x101000 (record queue { position = 1 }) second_loads second_table 2 None
 unfolding place addresses stored_all found_exactly
-second_fetches = (([], All-nil (IsLost blank), refl), second_offers)
+second_fetches = fetches (record queue { position = 1 }) second_loads second_table 2 (le16 2) (le16 2) refl refl refl (λ request. refl)
 
-first_mapped : LoadsAreMapped blank queue first_loads
+first_there : LoadsAreMapped blank queue first_loads
 unfolding place addresses
-first_mapped = record { index = λ some. refl; entry = λ some. refl; entries = ((refl, refl), ((refl, refl), tt)) }
+first_there = record { index = λ some. refl; entry = λ some. refl; entries = ((refl, refl), ((refl, refl), tt)) }
 
-second_mapped : LoadsAreMapped blank (record queue { position = 1 }) second_loads
+second_there : LoadsAreMapped blank (record queue { position = 1 }) second_loads
 unfolding place addresses
-second_mapped = record { index = λ some. refl; entry = λ some. refl; entries = ((refl, refl), ((refl, refl), tt)) }
-
-first_walks : {F : Type 0} (f : F) →
-    EndsPopSo (state f (at_positions 0 0) 0 []) 0 first_loads first_table (step.Chain 0 None) (state f (at_positions 1 0) 0 (first ∷ []))
-first_walks f = record {
-  w = at_positions 0 0;
-  there = refl;
-  room = refl;
-  proceeds = refl;
-  mapped = first_mapped;
-  ends = (first_fetches, refl, tt);
-}
-
-first_asks : {F : Type 0} (f : F) →
-    DecodesRequestSo (state f (at_positions 1 0) 0 (first ∷ [])) first lookup (looks ∷ []) (state f (at_positions 1 0) 0 (first_asked ∷ []))
-unfolding addresses meaning record_parser meant row last_name counted reply_bytes error_bytes fields.field_bytes
-first_asks f = record { before = []; behind = []; out = refl; fresh = refl; whole = refl; reports = refl; state = refl }
-
-second_walks : {F : Type 0} (f : F) → EndsPopSo (state f (at_positions 1 0) 0 (first_asked ∷ [])) 0 second_loads second_table
-    (step.Chain 2 None) (state f (at_positions 2 0) 0 (first_asked ∷ second ∷ []))
-second_walks f = record {
-  w = at_positions 1 0;
-  there = refl;
-  room = refl;
-  proceeds = refl;
-  mapped = second_mapped;
-  ends = (second_fetches, refl, tt);
-}
-
-second_asks : {F : Type 0} (f : F) → DecodesRequestSo (state f (at_positions 2 0) 0 (first_asked ∷ second ∷ [])) second init (starts ∷ [])
-    (state f (at_positions 2 0) 0 (first_asked ∷ second_asked ∷ []))
-unfolding addresses meaning record_parser meant row reply_bytes error_bytes fields.field_bytes
-second_asks f = record { before = first_asked ∷ []; behind = []; out = refl; fresh = refl; whole = refl; reports = refl; state = refl }
-
-second_answers : {F : Type 0} (may : May F) (before after : F) → may before starts (Wants 0) after →
-    ReceivesAnswerSo may (state before (at_positions 2 0) 0 (first_asked ∷ second_asked ∷ [])) second_asked starts (Wants 0)
-    (state after (at_positions 2 0) 1 (first_asked ∷ second_answered ∷ []))
-unfolding addresses meaning record_parser meant row reply_bytes error_bytes started_bytes fields.field_bytes
-second_answers may before after so = record {
-  before = first_asked ∷ [];
-  behind = [];
-  out = refl;
-  request = init;
-  options = 0;
-  calls = [];
-  asked = refl;
-  pending = refl;
-  is_one = refl;
-  files = after;
-  may_so = so;
-  state = refl;
-}
-
-second_returns : {F : Type 0} (f : F) →
-    PushesChainSo (state f (at_positions 2 0) 1 (first_asked ∷ second_answered ∷ [])) second_answered second_exchange true 0 second_used
-    (le16 0) (state f (at_positions 2 1) 1 (first_asked ∷ []))
-unfolding addresses meaning record_parser meant row reply_bytes error_bytes started_bytes fields.field_bytes
-second_returns f = record {
-  before = first_asked ∷ [];
-  behind = [];
-  out = refl;
-  w = at_positions 2 0;
-  there = refl;
-  proceeds = (refl, refl);
-  used_is = refl;
-  two = refl;
-  reported = refl;
-  state = refl;
-}
-
-first_answers : {F : Type 0} (may : May F) (before after : F) → may before looks (Failed 2) after →
-    ReceivesAnswerSo may (state before (at_positions 2 1) 1 (first_asked ∷ [])) first_asked looks (Failed 2)
-    (state after (at_positions 2 1) 1 (first_answered ∷ []))
-unfolding addresses meaning record_parser meant row last_name counted reply_bytes error_bytes fields.field_bytes
-first_answers may before after so = record {
-  before = [];
-  behind = [];
-  out = refl;
-  request = lookup;
-  options = 0;
-  calls = [];
-  asked = refl;
-  pending = refl;
-  is_one = refl;
-  files = after;
-  may_so = so;
-  state = refl;
-}
-
-first_returns : {F : Type 0} (f : F)
-    → PushesChainSo (state f (at_positions 2 1) 1 (first_answered ∷ [])) first_answered first_exchange true 0
-    first_used (le16 0) (state f (at_positions 2 2) 1 [])
-unfolding addresses meaning record_parser meant row last_name counted reply_bytes error_bytes fields.field_bytes
-first_returns f = record {
-  before = [];
-  behind = [];
-  out = refl;
-  w = at_positions 2 1;
-  there = refl;
-  proceeds = (refl, refl);
-  used_is = refl;
-  two = refl;
-  reported = refl;
-  state = refl;
-}
+second_there = record { index = λ some. refl; entry = λ some. refl; entries = ((refl, refl), ((refl, refl), tt)) }
 
 pub init_beside : {F : Type 0} (may : May F) → InitBeside may
+unfolding addresses meaning record_parser meant row last_name counted reply_bytes error_bytes started_bytes fields.field_bytes
 init_beside may before between after starting looking = (
   state before (at_positions 1 0) 0 (first ∷ []),
-  first_walks before,
+  record { w = at_positions 0 0; there = refl; room = refl; proceeds = refl; mapped = first_there; ends = (first_fetches, refl, tt) },
   (
     state before (at_positions 1 0) 0 (first_asked ∷ []),
-    first_asks before,
+    record { before = []; behind = []; out = refl; fresh = refl; whole = refl; reports = refl; state = refl },
     (
       state before (at_positions 2 0) 0 (first_asked ∷ second ∷ []),
-      second_walks before,
+      record { w = at_positions 1 0; there = refl; room = refl; proceeds = refl; mapped = second_there; ends = (second_fetches, refl, tt) },
       (
         state before (at_positions 2 0) 0 (first_asked ∷ second_asked ∷ []),
-        second_asks before,
+        record { before = first_asked ∷ []; behind = []; out = refl; fresh = refl; whole = refl; reports = refl; state = refl },
         (
           state between (at_positions 2 0) 1 (first_asked ∷ second_answered ∷ []),
-          second_answers may before between starting,
+          answers (first_asked ∷ []) init 0 between refl refl refl refl starting refl,
           (
             state between (at_positions 2 1) 1 (first_asked ∷ []),
-            second_returns between,
+            returns (first_asked ∷ []) (at_positions 2 0) refl refl (refl, refl) refl refl refl,
             (
               state after (at_positions 2 1) 1 (first_answered ∷ []),
-              first_answers may between after looking,
-              (state after (at_positions 2 2) 1 [], first_returns after, refl),
+              answers [] lookup 0 after refl refl refl refl looking refl,
+              (state after (at_positions 2 2) 1 [], returns [] (at_positions 2 1) refl refl (refl, refl) refl refl refl, refl),
             ),
           ),
         ),

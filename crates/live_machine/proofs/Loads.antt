@@ -1,7 +1,6 @@
 -- The calls of a pop make few loads.
 use Rattle.std.proofs.Common.{◌≡◌, ◌+◌, ◌<◌, ◌≤◌, ℕ, suc, Bool, List, [], ◌∷◌, ◌++◌, length, map, length-append, Option, Some, None, refl}
-use Rattle.std.proofs.Common.{subst, sym, ap, ◌∙◌, arith}
-use Rattle.std.specs.Prelude.{true, ◌==◌, ◌&&◌, option_map, if◌then◌else◌}
+use Rattle.std.proofs.Common.{true, ◌==◌, ◌&&◌, option_map, if◌then◌else◌, subst, sym, ap, ◌∙◌, arith}
 use Rattle.std.proofs.lemmas.Bool.{eqb-true}
 use Rattle.vm_memory.specs.Memory.{Memory}
 use Rattle.fs_queue.specs.AnyLoads.{load_at, loads_by}

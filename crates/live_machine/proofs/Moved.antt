@@ -14,21 +14,6 @@ use Rattle.live_machine.proofs.Queues.{preserved_not, one_ticket, same_some}
 
 -- ---- lists
 
-abbrev IsCons : {A : Type 0} → List A → Type 0
-IsCons [] = ⊥
-IsCons (x ∷ xs) = Unit {0}
-
-no_cons : {A : Type 0} (x : A) (xs : List A) → x ∷ xs ≡ [] → ⊥
-no_cons {A} x xs is = subst (λ (l : List A). IsCons l) is tt
-
-abbrev first_or : {A : Type 0} → A → List A → A
-first_or d [] = d
-first_or d (x ∷ xs) = x
-
-abbrev rest : {A : Type 0} → List A → List A
-rest [] = []
-rest (x ∷ xs) = xs
-
 -- what is put where it stands changes nothing
 same_there : {A : Type 0} (xs : List A) (i : ℕ) (x : A) → slice_get xs i ≡ Some x → changed_at xs i (λ _. x) ≡ xs
 same_there [] i x there = refl
@@ -42,7 +27,7 @@ module _ (i : ℕ) where
       → (in_flight_on i cs ≡ [] → filter (λ c. not (c.queue == i)) cs ≡ cs)
       → filter (λ c. not (c.queue == i)) (c ∷ cs) ≡ c ∷ cs
   one_stays c cs true is none more =
-      absurd (no_cons (c.taken.position, c.head) (in_flight_on i cs) (sym (one_ticket i c cs true is) ∙ none))
+      absurd (cc (sym (one_ticket i c cs true is) ∙ none))
   one_stays c cs false is none more =
       preserved_not (λ c. not (c.queue == i)) c cs true (ap not is)
       ∙ ap (λ (l : List InFlightChain). c ∷ l) (more (sym (one_ticket i c cs false is) ∙ none))
@@ -86,16 +71,12 @@ same_queue w v queue next_used rest =
 same_queues : (ws vs : List LiveQueue) → AllByRecursion HasNoneInFlight ws → AllByRecursion HasNoneInFlight vs →
     map (λ w. w.queue) ws ≡ map (λ w. w.queue) vs → map unrecorded ws ≡ map unrecorded vs → ws ≡ vs
 same_queues [] [] even stand queues rest_is = refl
-same_queues [] (v ∷ vs) even stand queues rest_is = absurd (no_cons v.queue (map (λ w. w.queue) vs) (sym queues))
-same_queues (w ∷ ws) [] even stand queues rest_is = absurd (no_cons w.queue (map (λ w. w.queue) ws) queues)
 same_queues (w ∷ ws) (v ∷ vs) even stand queues rest_is =
-    let queue : w.queue ≡ v.queue = ap (λ (l : List Queue). first_or w.queue l) queues in
-    let first : w ≡ v =
-    same_queue w v queue (even.0.0 ∙ ap (λ (q : Queue). q.position) queue ∙ sym stand.0.0)
-    (ap (λ (l : List (ℕ × Bool)). first_or (unrecorded w) l) rest_is) in
-    let others : ws ≡ vs =
-    same_queues ws vs even.1 stand.1 (ap (λ (l : List Queue). rest l) queues) (ap (λ (l : List (ℕ × Bool)). rest l) rest_is) in
-    ap (λ (u : LiveQueue). u ∷ ws) first ∙ ap (λ (l : List LiveQueue). v ∷ l) others
+    let queue : w.queue ≡ v.queue = cc in
+    let first : w ≡ v = same_queue w v queue (even.0.0 ∙ ap (λ (q : Queue). q.position) queue ∙ sym stand.0.0) (cc) in
+    let others : ws ≡ vs = same_queues ws vs even.1 stand.1 (cc) (cc) in
+    cc
+same_queues _ _ even stand queues rest_is = absurd (cc)
 
 -- runs join
 pub joined : {F : Type 0} (may : May F) (s mid end : LiveState F) (es later : List LiveEvent) → LiveRun may s es mid →

@@ -1,7 +1,6 @@
 -- A chain that is offered has places: for what its return stores and reads, and for its room.
-use Rattle.std.proofs.Common.{◌≡◌, ℕ, Bool, List, [], ◌∷◌, ◌++◌, length, Option, Some, None, refl, subst}
-use Rattle.std.specs.Prelude.{true, false, ◌+◌, ◌^◌, if◌then◌else◌, ◌&&◌, ◌||◌, ◌==◌, not, nat_lt, is_some, option_map, option_and_then}
-use Rattle.std.specs.Prelude.{flat_map, replicate}
+use Rattle.std.proofs.Common.{◌≡◌, ℕ, Bool, List, [], ◌∷◌, ◌++◌, length, Option, Some, None, refl, subst, true, false, ◌+◌, ◌^◌}
+use Rattle.std.proofs.Common.{if◌then◌else◌, ◌&&◌, ◌||◌, ◌==◌, not, nat_lt, is_some, option_map, option_and_then, flat_map, replicate}
 use Rattle.std.specs.List.{list_all}
 use Rattle.std.proofs.lemmas.List.{length-replicate}
 use Rattle.vm_iotlb.specs.declared.permissions.Permissions.TheVariants.{Read, Write}

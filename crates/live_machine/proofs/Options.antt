@@ -1,6 +1,5 @@
 -- The options that serving leaves, where those that stand by an answer aren't those of the asking.
-use Rattle.std.proofs.Common.{◌≡◌, ℕ, Bool, List, [], ◌∷◌, ◌++◌, length, refl, subst, sym, ap, ◌∙◌}
-use Rattle.std.specs.Prelude.{true, false, nat_lt}
+use Rattle.std.proofs.Common.{◌≡◌, ℕ, Bool, List, [], ◌∷◌, ◌++◌, length, refl, subst, sym, ap, ◌∙◌, true, false, nat_lt}
 use Rattle.std.proofs.lemmas.Bool.{true≢false}
 use Rattle.fuse_fs.specs.Calls.{FileCall, FileAnswer}
 use Rattle.fuse_fs.specs.Calls as file

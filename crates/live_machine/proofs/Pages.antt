@@ -1,7 +1,6 @@
 -- Which pages the stores of a run mark.
-use Rattle.std.proofs.Common.{arith, ◌≡◌, ℕ, suc, Bool, List, [], ◌∷◌, ◌++◌, length, map, take, drop, zip, flat_map, Option}
-use Rattle.std.proofs.Common.{refl, subst, sym, ap, ◌∙◌, append_assoc, append-nil}
-use Rattle.std.specs.Prelude.{◌||◌, ◌==◌, option_map}
+use Rattle.std.proofs.Common.{arith, ◌≡◌, ℕ, suc, Bool, List, [], ◌∷◌, ◌++◌, length, map, take, drop, zip, flat_map, Option, ◌||◌, ◌==◌}
+use Rattle.std.proofs.Common.{option_map, refl, subst, sym, ap, ◌∙◌, append_assoc, append-nil}
 use Rattle.std.specs.Int.{w16, w32, to_le_bytes}
 use Rattle.std.specs.List.{list_any}
 use Rattle.std.proofs.Math.Bool.{or_comm}
@@ -21,9 +20,7 @@ use Rattle.plain_machine.proofs.PageLemmas.{writes_mark}
 use Rattle.plain_machine.proofs.StepByLemmas.{reply_writes}
 use Rattle.live_machine.specs.Several.{LiveQueue, returning, wish_at}
 use Rattle.live_machine.specs.Live.{FillsBuffer, Happens, LiveEvent, LiveState, InFlightChain, PushesChain, PushesChainSo}
-use Rattle.live_machine.specs.Live.{StoresNotification}
-use Rattle.live_machine.specs.Live.{StoresNotificationSo, event_acts}
-use Rattle.live_machine.specs.Live.{room_of}
+use Rattle.live_machine.specs.Live.{StoresNotification, StoresNotificationSo, event_acts, room_of}
 use Rattle.live_machine.specs.Runs.{LogsAsReported, MarksAsReported, PagesAreReported, ReturnsReport, page_of, reported_by, queue_addresses}
 use Rattle.live_machine.specs.Runs.{written_by}
 use Rattle.live_machine.proofs.Stored.{among_return, among_stores}
@@ -35,10 +32,10 @@ abbrev firsts : List (ℕ × ℕ) → List ℕ
 firsts ws = map (λ (w : ℕ × ℕ). w.0) ws
 
 firsts_zip : (as' xs : List ℕ) → firsts (zip as' xs) ≡ take (length xs) as'
+firsts_zip (a ∷ as') (x ∷ xs) = ap (λ (l : List ℕ). a ∷ l) (firsts_zip as' xs)
 firsts_zip [] [] = refl
 firsts_zip [] (x ∷ xs) = refl
 firsts_zip (a ∷ as') [] = refl
-firsts_zip (a ∷ as') (x ∷ xs) = ap (λ (l : List ℕ). a ∷ l) (firsts_zip as' xs)
 
 zip_none : (as' xs : List ℕ) → xs ≡ [] → zip as' xs ≡ []
 zip_none [] xs none = refl

@@ -1,7 +1,6 @@
 -- Each return of a run has places.
 use Rattle.std.proofs.Common.{arith, ◌≡◌, ℕ, zero, suc, ◌+◌, Bool, List, [], ◌∷◌, ◌++◌, length, filter, Option, Some, None, slice_get, refl}
-use Rattle.std.proofs.Common.{subst, sym, ap, ◌∙◌, length-append, append-nil}
-use Rattle.std.specs.Prelude.{not, ◌==◌, true, false, ◌-◌, ◌<◌, ◌%◌, ◌^◌, if◌then◌else◌}
+use Rattle.std.proofs.Common.{not, ◌==◌, true, false, ◌-◌, ◌<◌, ◌%◌, ◌^◌, if◌then◌else◌, subst, sym, ap, ◌∙◌, length-append, append-nil}
 use Rattle.std.specs.List.{AllByRecursion}
 use Rattle.std.proofs.lemmas.Bool.{eq-eqb, eqb-true}
 use Rattle.vm_memory_core.specs.Host.{changed_at}
@@ -15,23 +14,17 @@ use Rattle.fs_regions.specs.Walks.{Loaded}
 use Rattle.virtiofsd_fuse.specs.Serving.{May}
 use Rattle.live_machine.specs.Several.{LiveQueue, InFlightId, took, gave_up, gave, returning}
 use Rattle.live_machine.specs.Live.{Phase, PoppedFaulty, Own, Abandoned, InFlightChain, LiveState, LiveEvent, EndsPop, RefusesPop}
-use Rattle.live_machine.specs.Live.{DecodesRequest}
-use Rattle.live_machine.specs.Live.{ReceivesAnswer}
-use Rattle.live_machine.specs.Live.{PushesChain, StoresNotification, ResetsQueue, FillsBuffer, GivesUpChain, Abandons, RepliesOwnBytes}
-use Rattle.live_machine.specs.Live.{Remaps}
-use Rattle.live_machine.specs.Live.{MovesDevice, Happens}
-use Rattle.live_machine.specs.Live.{LiveRun}
-use Rattle.live_machine.specs.Live.{IfKeepsReturns, KeepsQueue, KeepsReturns, EndsPopIn, after_answer, after_decoding, after_reset}
-use Rattle.live_machine.specs.Live.{after_giving_up}
-use Rattle.live_machine.specs.Live.{abandoned_chain, after_abandoning, after_push, after_own, asked_chain, fault_of_phase, new_chain}
-use Rattle.live_machine.specs.Live.{room_of_phase, pop_refusal}
+use Rattle.live_machine.specs.Live.{DecodesRequest, ReceivesAnswer, PushesChain, StoresNotification, ResetsQueue, FillsBuffer, GivesUpChain}
+use Rattle.live_machine.specs.Live.{Abandons, RepliesOwnBytes, Remaps, MovesDevice, Happens, LiveRun, IfKeepsReturns, KeepsQueue}
+use Rattle.live_machine.specs.Live.{KeepsReturns, EndsPopIn, after_answer, after_decoding, after_reset, after_giving_up, abandoned_chain}
+use Rattle.live_machine.specs.Live.{after_abandoning, after_push, after_own, asked_chain, fault_of_phase, new_chain, room_of_phase}
+use Rattle.live_machine.specs.Live.{pop_refusal}
 use Rattle.live_machine.specs.Runs.{HasNoneInFlight, HasUsedEvent, ReturnIsMapped, ReturnsAreMapped, are_mapped, in_flight_on}
 use Rattle.live_machine.proofs.Alone.{Walked, all_both, all_left, all_right, walked_there}
 use Rattle.live_machine.proofs.Declined.{has_events, seen_has_a_place}
 use Rattle.live_machine.proofs.Offered.{RoomFits, fetched_fits, is_returned}
 use Rattle.live_machine.proofs.Queues.{apart_of, dropped, carries_on, preserved_not, none_some, one_ticket, same_some, there_other}
-use Rattle.live_machine.proofs.Queues.{there_same}
-use Rattle.live_machine.proofs.Queues.{tickets-append}
+use Rattle.live_machine.proofs.Queues.{there_same, tickets-append}
 
 -- ---- the returns that are to come
 
@@ -508,13 +501,7 @@ back_there now m w keeps next = (sym (keeps.returns w.next_used) ∙ next.0, λ 
 return_there : (m : Memory) (w : LiveQueue) → Next m w → ReturnIsMapped m w
 return_there m w next =
     let places = is_returned m (returning w) next.0 in
-    record {
-      element = places.0;
-      index = places.1;
-      flags = places.2;
-      used_event = next.1;
-      seen = seen_has_a_place m w places.2 next.1;
-    }
+    record { element = places.0; index = places.1; flags = places.2; used_event = next.1; seen = seen_has_a_place m w places.2 next.1 }
 
 pub returns_have_places : {F : Type 0} (may : May F) → ReturnsAreMapped may
 returns_have_places {F} may s now after es c x notice last used seen none even run h =

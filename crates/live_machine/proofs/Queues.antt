@@ -1,7 +1,7 @@
 -- One queue of a run.
-use Rattle.std.proofs.Common.{arith, ◌≡◌, ℕ, zero, suc, Bool, List, [], ◌∷◌, ◌++◌, length, filter, Option, Some, None, slice_get, refl}
+use Rattle.std.proofs.Common.{arith, ◌≡◌, ℕ, zero, suc, Bool, List, [], ◌∷◌, ◌++◌, length, filter, Some, None, slice_get, refl}
 use Rattle.std.proofs.Common.{subst, sym, ap, ◌∙◌, append-nil}
-use Rattle.std.specs.Prelude.{◌+◌, ◌%◌, ◌^◌, not, ◌==◌, true, false, if◌then◌else◌, unwrap_or, IsTrue}
+use Rattle.std.specs.Prelude.{◌+◌, ◌%◌, ◌^◌, not, ◌==◌, true, false, if◌then◌else◌, IsTrue}
 use Rattle.std.specs.List.{AllByRecursion}
 use Rattle.std.proofs.lemmas.Bool.{eqb-true, eq-eqb}
 use Rattle.vm_memory_core.specs.Host.{changed_at}
@@ -17,27 +17,22 @@ use Rattle.live_machine.specs.Several.{LiveQueue, InFlightId, QueueEvent, RunsOv
 use Rattle.live_machine.specs.Several as several
 use Rattle.live_machine.proofs.SeveralRuns.{once, used_in_order}
 use Rattle.live_machine.specs.Live.{InFlightChain, LiveState, LiveEvent, EndsPop, RefusesPop, DecodesRequest, ReceivesAnswer, PushesChain}
-use Rattle.live_machine.specs.Live.{HasEffect}
-use Rattle.live_machine.specs.Live.{StoresNotification, ResetsQueue, SetsOptions}
-use Rattle.live_machine.specs.Live.{FillsBuffer, GivesUpChain}
-use Rattle.live_machine.specs.Live.{Abandons, RepliesOwnBytes, Remaps, MovesDevice, Happens, LiveRun, EndsPopIn}
-use Rattle.live_machine.specs.Live.{Own, abandoned_chain, after_abandoning, after_answer, after_decoding, after_reset, after_giving_up}
-use Rattle.live_machine.specs.Live.{after_own}
-use Rattle.live_machine.specs.Live.{asked_chain}
+use Rattle.live_machine.specs.Live.{HasEffect, StoresNotification, ResetsQueue, SetsOptions, FillsBuffer, GivesUpChain, Abandons}
+use Rattle.live_machine.specs.Live.{RepliesOwnBytes, Remaps, MovesDevice, Happens, LiveRun, EndsPopIn, Own, abandoned_chain}
+use Rattle.live_machine.specs.Live.{after_abandoning, after_answer, after_decoding, after_reset, after_giving_up, after_own, asked_chain}
 use Rattle.live_machine.specs.Live.{new_chain}
 use Rattle.live_machine.specs.Runs.{RunsOnQueue, OncePerLiveChain, LiveUsedInOrder, NoReset, event_on, events_on, in_flight_on, going}
 
 -- ---- queues in their places
 
-abbrev is_this : {A : Type 0} → A → Option A → Type 0
-is_this x (Some y) = y ≡ x
-is_this x None = ⊥
-
 pub same_some : {A : Type 0} (x y : A) → Some x ≡ Some y → x ≡ y
-same_some {A} x y e = ap (λ (k : Option A). unwrap_or k x) e
+same_some x y e = cc
 
 pub none_some : {A : Type 0} (x : A) → None ≡ Some x → ⊥
-none_some {A} x e = subst (λ (k : Option A). is_this x k) (sym e) refl
+none_some x e = cc
+
+pub some_none : {A : Type 0} (x : A) → Some x ≡ None → ⊥
+some_none x e = cc
 
 pub there_same : {A : Type 0} (xs : List A) (j i : ℕ) (f : A → A) (x : A) → j ≡ i → slice_get xs i ≡ Some x →
     slice_get (changed_at xs j f) i ≡ Some (f x)
@@ -51,12 +46,8 @@ there_other (y ∷ ys) zero zero f apart = absurd (apart refl)
 there_other (y ∷ ys) (suc j) (suc i) f apart = there_other ys j i f (λ same. apart (ap suc same))
 there_other xs j i f apart = refl
 
-abbrev Holds : Bool → Type 0
-Holds true = Unit {0}
-Holds false = ⊥
-
 not_both : (b : Bool) → b ≡ true → b ≡ false → ⊥
-not_both b t f = subst (λ (k : Bool). Holds k) (sym t ∙ f) tt
+not_both b t f = cc
 
 self : (n : ℕ) → (n == n) ≡ true
 self n = eq-eqb n n refl

@@ -57,10 +57,9 @@ entry_stops (Some bs) w h = tt
 
 waits_tests : (a b c : Bool) (entry : Option (List ℕ)) (v w : NextAvail) → NextStops v → NextStops w →
     NextMayStop (if a then None else if b then without_entry entry v else if c then None else Some w)
-waits_tests true b c entry v w one two = tt
 waits_tests false true c entry v w one two = entry_stops entry v one
-waits_tests false false true entry v w one two = tt
 waits_tests false false false entry v w one two = two
+waits_tests _ _ _ entry v w one two = tt
 
 waits_stop : (q : Queue) (index entry : Option (List ℕ)) → NextMayStop (available_by q index entry)
 waits_stop q index entry =

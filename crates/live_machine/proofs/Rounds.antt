@@ -10,9 +10,8 @@ use Rattle.plain_machine.specs.StepBy.{stores_among}
 use Rattle.live_machine.specs.Live.{Happens, LiveEvent, LiveState, event_acts}
 use Rattle.live_machine.specs.Runs.{page_of, reported_by}
 use Rattle.live_machine.specs.Rounds.{BeginsEvent, BeginsWithAllMarked, CopiesByte, EndsWithWholeCopy, GuestWrites, LosesNothing}
-use Rattle.live_machine.specs.Rounds.{MarksPages, Migration, RoundsLoseNothing, StoresByte, TakesMarks, after_beginning}
-use Rattle.live_machine.specs.Rounds.{after_copying, after_guest, after_marking, after_storing, after_taking, has_page, has_store}
-use Rattle.live_machine.specs.Rounds.{is_known}
+use Rattle.live_machine.specs.Rounds.{MarksPages, Migration, RoundsLoseNothing, StoresByte, TakesMarks, after_beginning, after_copying}
+use Rattle.live_machine.specs.Rounds.{after_guest, after_marking, after_storing, after_taking, has_page, has_store, is_known}
 use Rattle.live_machine.proofs.Pages.{one_event}
 use Rattle.live_machine.proofs.Queues.{apart_of}
 
@@ -84,10 +83,7 @@ module _ (keep : ℕ → Bool) (page : ℕ) (all : (c : ℕ) → (page_of c == p
       → has_page (cond keeps (c ∷ filter keep xs) (filter keep xs)) page ≡ true
   preserved_one c xs is true same keeps rest h =
       either_way is (has_page xs page) (page_of c == page) (has_page (filter keep xs) page) (λ e. same ∙ e) rest h
-  preserved_one c xs true false same keeps rest h = absurd (apart (keep c) (all c same) keeps)
-    where
-      apart : (b : Bool) → b ≡ true → b ≡ false → ⊥
-      apart b t f = cc
+  preserved_one c xs true false same keeps rest h = absurd (cc (all c same))
   preserved_one c xs false false same keeps rest h = rest h
 
   preserved : (xs : List ℕ) → has_page xs page ≡ true → has_page (filter keep xs) page ≡ true
@@ -185,10 +181,7 @@ module _ (m : Migration) (fine : LosesNothing m) where
   copied place a false is differ = fine.known a differ
 
   copying_keeps : (place : ℕ) → LosesNothing (after_copying m place)
-  copying_keeps place = record {
-    known = λ a differ. copied place a (a == place) refl differ;
-    owed = fine.owed;
-  }
+  copying_keeps place = record { known = λ a differ. copied place a (a == place) refl differ; owed = fine.owed }
 
   -- an event's stores are to the pages that it reports
   beginning_keeps : {F : Type 0} (may : May F) (s mid : LiveState F) (e : LiveEvent) (places : ℕ → ℕ) → Happens may s e mid
@@ -237,11 +230,8 @@ rounds_lose_nothing may s after (CopiesByte place ∷ ms) run m fine =
 pub begins_with_all_marked : BeginsWithAllMarked
 begins_with_all_marked m all none = record {
   known = λ a differ. in_second (m.to_copy a) (m.marked (page_of a)) (has_page m.to_mark (page_of a)) (all (page_of a));
-  owed = λ page ahead. absurd (no_store page (subst (λ (ws : List (ℕ × ℕ)). has_store ws page ≡ true) none ahead));
+  owed = λ page ahead. absurd (cc (subst (λ (ws : List (ℕ × ℕ)). has_store ws page ≡ true) none ahead));
 }
-  where
-    no_store : (page : ℕ) → false ≡ true → ⊥
-    no_store page h = cc
 
 none_left : (ws : List (ℕ × ℕ)) → ((page : ℕ) → has_store ws page ≡ true → ⊥) → ws ≡ []
 none_left [] none = refl
@@ -256,10 +246,7 @@ ends_with_whole_copy m fine copied' unmarked none = record {
 }
   where
     none_owed : (page : ℕ) → has_page m.to_mark page ≡ true → ⊥
-    none_owed page owed = not_none (subst (λ (xs : List ℕ). has_page xs page ≡ true) none owed)
-      where
-        not_none : false ≡ true → ⊥
-        not_none h = cc
+    none_owed page owed = cc (subst (λ (xs : List ℕ). has_page xs page ≡ true) none owed)
 
     same_at : (a : ℕ) (is : Bool) → (m.copy a == m.bytes a) ≡ is → m.copy a ≡ m.bytes a
     same_at a true is = eqb-true (m.copy a) (m.bytes a) is

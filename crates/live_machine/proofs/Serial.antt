@@ -1,7 +1,6 @@
 -- One chain at a time.
 use Rattle.std.proofs.Common.{◌≡◌, ℕ, zero, suc, ◌+◌, ◌%◌, ◌^◌, Bool, List, [], ◌∷◌, ◌++◌, length, map, Option, Some, None, slice_get, refl}
-use Rattle.std.proofs.Common.{subst, sym, ap, ◌∙◌}
-use Rattle.std.specs.Prelude.{false, All, IsTrue}
+use Rattle.std.proofs.Common.{false, All, IsTrue, subst, sym, ap, ◌∙◌}
 use Rattle.std.specs.List.{AllByRecursion}
 use Rattle.std.proofs.lemmas.List.Elements.{All-head, All-tail}
 use Rattle.std.proofs.lemmas.List.{map-append}
@@ -27,11 +26,8 @@ use Rattle.plain_machine.specs.StepBy.{Act, Effects, StepBy, StepOfBy, Exchanges
 use Rattle.plain_machine.specs.StepBy.{after_stores, stores_among, offered_by, reply_stores, return_acts}
 use Rattle.plain_machine.proofs.StepByLemmas.{step_by_is_step}
 use Rattle.live_machine.specs.Live.{Phase, PoppedFaulty, Fetched, Asked, InFlightChain, LiveState, LiveEvent, DecodesRequest}
-use Rattle.live_machine.specs.Live.{ReceivesAnswer}
-use Rattle.live_machine.specs.Live.{Happens, LiveRun}
-use Rattle.live_machine.specs.Live.{EndsPopSo, DecodesRequestSo, LoadsAreMapped, ReceivesAnswerSo, PushesChainSo, calls_in, fault_of_phase}
-use Rattle.live_machine.specs.Live.{new_chain, with_popped}
-use Rattle.live_machine.specs.Live.{room_of, serving, event_acts}
+use Rattle.live_machine.specs.Live.{ReceivesAnswer, Happens, LiveRun, EndsPopSo, DecodesRequestSo, LoadsAreMapped, ReceivesAnswerSo}
+use Rattle.live_machine.specs.Live.{PushesChainSo, calls_in, fault_of_phase, new_chain, with_popped, room_of, serving, event_acts}
 use Rattle.live_machine.specs.Live.{PushedWith}
 use Rattle.live_machine.specs.Runs.{IsAskedIn, IsServedPhase, options_left, after_alone, chain_loads, request_of_phase}
 use Rattle.live_machine.specs.Several.{LacksEventIndex, LiveQueue, took, gave, returning, wants}
@@ -43,28 +39,11 @@ use Rattle.live_machine.proofs.Options.{leaves_none, leaves_again}
 
 -- ---- one chain alone
 
-is_cons : {A : Type 0} → List A → Type 0
-is_cons [] = ⊥
-is_cons (x ∷ xs) = Unit {0}
-
-not_cons : {A : Type 0} (x : A) (xs : List A) → [] ≡ x ∷ xs → ⊥
-unfolding is_cons
-not_cons {A} x xs e = subst (λ (l : List A). is_cons l) (sym e) tt
-
-head_or : {A : Type 0} → A → List A → A
-head_or d [] = d
-head_or d (x ∷ xs) = x
-
-rest_of : {A : Type 0} → List A → List A
-rest_of [] = []
-rest_of (x ∷ xs) = xs
-
 -- of one chain that is out, it is the one, and there are no others
 alone : {A : Type 0} (d : A) (before behind : List A) (c : A) → d ∷ [] ≡ before ++ c ∷ behind → (before ≡ []) × (c ≡ d) × (behind ≡ [])
-unfolding head_or rest_of
-alone {A} d [] behind c e = (refl, sym (ap (λ (l : List A). head_or d l) e), sym (ap (λ (l : List A). rest_of l) e))
-alone {A} d (b ∷ []) behind c e = absurd (not_cons c behind (ap (λ (l : List A). rest_of l) e))
-alone {A} d (b ∷ b₁ ∷ bs) behind c e = absurd (not_cons b₁ (bs ++ c ∷ behind) (ap (λ (l : List A). rest_of l) e))
+alone d [] behind c e = (refl, cc, cc)
+alone d (b ∷ []) behind c e = absurd (cc)
+alone d (b ∷ b₁ ∷ bs) behind c e = absurd (cc)
 
 -- a chain in another phase
 abbrev pub in_phase : InFlightChain → Phase → InFlightChain

@@ -1,17 +1,15 @@
 -- Runs of takes and returns.
-use Rattle.std.proofs.Common.{arith, ◌≡◌, ℕ, ◌+◌, ◌-◌, ◌%◌, ◌^◌, ◌<◌, List, [], ◌∷◌, ◌++◌, IsPermutation, map, refl, subst, sym, ap}
-use Rattle.std.proofs.Common.{◌∙◌, append_assoc, append-nil}
+use Rattle.std.proofs.Common.{arith, ◌≡◌, ℕ, ◌+◌, ◌-◌, ◌%◌, ◌^◌, ◌<◌, List, [], ◌∷◌, ◌++◌, IsPermutation, map, refl, subst, sym, ap, ◌==◌}
+use Rattle.std.proofs.Common.{nat_lt, ◌∙◌, append_assoc, append-nil}
 use Rattle.std.proofs.lemmas.List.{map-append}
 use Rattle.std.proofs.lemmas.List.Sorted.{IsPermutation-refl, IsPermutation-sym, IsPermutation-cons, IsPermutation-trans}
 use Rattle.std.proofs.lemmas.List.Sorted.{IsPermutation-middle}
 use Rattle.std.specs.Int.{w16, from_le_bytes}
-use Rattle.std.specs.Prelude.{◌==◌, nat_lt}
 use Rattle.std.proofs.lemmas.Bool.Decides.{nat_tests}
 use Rattle.fs_queue.specs.Returning.{Store, stores_after_reply}
 use Rattle.live_machine.specs.Several.{ByEvent, LiveQueue, InFlightId, QueueEvent, PopsOne, DropsLast, PushesOne, RunsOver, UsedFrom}
-use Rattle.live_machine.specs.Several.{HasEventIndex, returns_among}
-use Rattle.live_machine.specs.Several.{took, gave, gave_up}
-use Rattle.live_machine.specs.Several.{wants, IsSerial, StoresAsTaken, heads_taken, heads_ended, IsOldestFirst, AtTheirPositions}
+use Rattle.live_machine.specs.Several.{HasEventIndex, returns_among, took, gave, gave_up, wants, IsSerial, StoresAsTaken, heads_taken}
+use Rattle.live_machine.specs.Several.{heads_ended, IsOldestFirst, AtTheirPositions}
 
 -- a take moves no return
 past_take : (w : LiveQueue) (rs : List (InFlightId × ℕ × List Store)) → UsedFrom (took w) rs → UsedFrom w rs

@@ -178,13 +178,8 @@ returned_beside_is_step {F} may other s now after es queues c x notice last used
     let start : AllWalked s = subst (AllByRecursion (Walked s.limit)) (sym none) tt in
     let then : LiveState F = record now { queues = queues } in
     let walked = (one_walked now h.before h.behind c h.out (beside_walked may s now es run start)).1 in
-    let same : IsBefore then c m = record {
-      places = first.places;
-      limit = first.limit;
-      page_size = first.page_size;
-      options = first.options;
-      queue = first.queue;
-    } in
+    let same : IsBefore then c m =
+    record { places = first.places; limit = first.limit; page_size = first.page_size; options = first.options; queue = first.queue } in
     let step = step_by_walk may other then after c x notice last used seen m files walked h served same calls in (
       step.0,
       step.1,

@@ -1,6 +1,5 @@
 -- The store before a sleep: two bytes at one address.
-use Rattle.std.proofs.Common.{◌≡◌, ℕ, Bool, true, false, Some, None, refl, sym}
-use Rattle.std.specs.Prelude.{if◌then◌else◌}
+use Rattle.std.proofs.Common.{◌≡◌, ℕ, Bool, true, false, Some, None, refl, sym, if◌then◌else◌}
 use Rattle.std.specs.Int.{w16, to_le_bytes}
 use Rattle.fs_queue.specs.Returning.{Store}
 use Rattle.live_machine.specs.Several.{HasEventIndex, LiveQueue, avail_event_at, sleep_store, wish_at}

@@ -1,7 +1,6 @@
 -- What is offered by loads: a request and a room within the limit, and never a refusal for want of memory.
 use Rattle.std.proofs.Common.{◌≡◌, ℕ, ◌≤◌, Bool, true, false, List, [], ◌∷◌, length, ◌+◌, Option, Some, None, refl, subst, sym}
-use Rattle.std.proofs.Common.{ap, ◌∙◌, length-append}
-use Rattle.std.specs.Prelude.{if◌then◌else◌, ◌==◌, ◌||◌, not, nat_lt, option_map, option_and_then, flat_map}
+use Rattle.std.proofs.Common.{if◌then◌else◌, ◌==◌, ◌||◌, not, nat_lt, option_map, option_and_then, flat_map, ap, ◌∙◌, length-append}
 use Rattle.std.proofs.lemmas.Bool.{eqb-true, ltb-false}
 use Rattle.vm_iotlb.specs.declared.permissions.Permissions.TheVariants.{Read, Write}
 use Rattle.vm_memory.specs.Memory.{Memory, addresses, bytes}
@@ -15,8 +14,7 @@ use Rattle.fs_queue.specs.Chain.{Descriptor, Found, IsChain, HasFault, StopsQueu
 use Rattle.fs_queue.specs.Loads.{Load, holding, index_load, entry_load, chain_exactly}
 use Rattle.fs_queue.specs.OfferLoads.{without_request, without_chain, without_loads, without_entry, available_by, with_request, with_loaded}
 use Rattle.fs_queue.specs.OfferLoads.{on_waits, offer_by}
-use Rattle.fs_queue.specs.Taking.{readable, writable, total_len, all_reach, IsRequest, CannotFetch, Offer, Refuses, Offers}
-use Rattle.fs_queue.specs.Taking.{offer_of}
+use Rattle.fs_queue.specs.Taking.{readable, writable, total_len, all_reach, IsRequest, CannotFetch, Offer, Refuses, Offers, offer_of}
 use Rattle.fs_queue.specs.Taking as taking
 use Rattle.fs_queue.proofs.TakeLemmas.{length-addresses_of}
 use Rattle.std.proofs.lemmas.List.Sums.{sum_by-cons}
@@ -74,10 +72,9 @@ entry_not (Some bs) w h = tt
 
 waits_tests : (a b c : Bool) (entry : Option (List ℕ)) (v w : NextAvail) → NoWant v → NoWant w →
     ShowsNext NoWant (if a then None else if b then without_entry entry v else if c then None else Some w)
-waits_tests true b c entry v w one two = tt
 waits_tests false true c entry v w one two = entry_not entry v one
-waits_tests false false true entry v w one two = tt
 waits_tests false false false entry v w one two = two
+waits_tests _ _ _ entry v w one two = tt
 
 waits_is : (q : Queue) (index entry : Option (List ℕ)) → ShowsNext NoWant (available_by q index entry)
 waits_is q index entry =

@@ -8,8 +8,7 @@ use Rattle.plain_machine.specs.MarkedPages.{block_mark, io_mark, marked_by, mark
 use Rattle.plain_machine.specs.StepBy.{after_stores, reply_stores}
 use Rattle.fs_queue.specs.Returning.{Store}
 use Rattle.live_machine.specs.Live.{FillsBuffer, LiveEvent, LiveRun, LiveState, MovesDevice, PushesChain}
-use Rattle.live_machine.specs.Live.{Remaps}
-use Rattle.live_machine.specs.Live.{StoresNotification, room_of}
+use Rattle.live_machine.specs.Live.{Remaps, StoresNotification, room_of}
 use Rattle.live_machine.specs.Runs.{reported_by}
 
 -- the guest writes these bytes, each at its physical address; or the device's next event happens. The guest's

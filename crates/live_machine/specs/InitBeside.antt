@@ -1,5 +1,5 @@
 -- INIT is answered while the call of a chain that was decoded before it is still pending.
-use Rattle.std.specs.Prelude.{ℕ, true, List, [], ◌∷◌, ◌++◌, ◌^◌, Some, None}
+use Rattle.std.specs.Prelude.{ℕ, true, List, [], ◌∷◌, ◌++◌, ◌^◌, None}
 use Rattle.fs_queue.specs.Chain.{Descriptor}
 use Rattle.fs_queue.specs.Returning.{Store}
 use Rattle.fs_regions.specs.declared.step.CourseStep.TheVariants as step
@@ -7,12 +7,10 @@ use Rattle.fs_regions.specs.Walks.{Loaded}
 use Rattle.fuse_fs.specs.Calls.{FileCall, Failed, Init, Lookup, Wants}
 use Rattle.virtiofsd_fuse.specs.Examples.{le16, le32, le64, in_header_bytes, nobody, zeros}
 use Rattle.virtiofsd_fuse.specs.Serving.{May}
-use Rattle.plain_machine.specs.Examples.{blank, descriptor_bytes, queue}
 use Rattle.plain_machine.specs.Step.{Exchange}
-use Rattle.live_machine.specs.Live.{Fetched, Asked, InFlightChain, EndsPop, DecodesRequest, ReceivesAnswer}
-use Rattle.live_machine.specs.Live.{PushesChain}
-use Rattle.live_machine.specs.Live.{LiveRun}
-use Rattle.live_machine.specs.Overlap.{at_positions, entry, state}
+use Rattle.live_machine.specs.Live.{Asked, InFlightChain, EndsPop, DecodesRequest, ReceivesAnswer}
+use Rattle.live_machine.specs.Live.{PushesChain, LiveRun}
+use Rattle.live_machine.specs.Overlap.{at_positions, loads_of, popped, state, table_of, used_of}
 
 -- LOOKUP of `a` in node 1
 abbrev pub lookup : List ℕ
@@ -30,61 +28,29 @@ looks = Lookup nobody 1 (97 ∷ [])
 abbrev pub starts : FileCall
 starts = Init 1
 
--- the loads of the first pop: an index of 2, head 0, and the table's first two entries
+-- the first pop's loads: head 0
 abbrev pub first_loads : Loaded
-first_loads =
-    record {
-      index = Some (le16 2);
-      entry = Some (le16 0);
-      entries = entry 0 (descriptor_bytes 0x1000 42 1 1) ∷ entry 16 (descriptor_bytes 0x2000 144 2 0) ∷ [];
-    }
+first_loads = loads_of 0 0x1000 42 0x2000 144
 
--- the loads of the second pop: head 2, and the other two entries
+-- the second pop's: head 2
 abbrev pub second_loads : Loaded
-second_loads =
-    record {
-      index = Some (le16 2);
-      entry = Some (le16 2);
-      entries = entry 32 (descriptor_bytes 0x3000 56 1 3) ∷ entry 48 (descriptor_bytes 0x4000 80 2 0) ∷ [];
-    }
+second_loads = loads_of 2 0x3000 56 0x4000 80
 
 -- the first chain's descriptors
 abbrev pub first_table : List Descriptor
-first_table =
-    record { addr = 0x1000; len = 42; flags = 1; next = 1 }
-    ∷ record { addr = 0x2000; len = 144; flags = 2; next = 0 } ∷ []
+first_table = table_of 0 0x1000 42 0x2000 144
 
 -- the second chain's
 abbrev pub second_table : List Descriptor
-second_table =
-    record { addr = 0x3000; len = 56; flags = 1; next = 3 }
-    ∷ record { addr = 0x4000; len = 80; flags = 2; next = 0 } ∷ []
+second_table = table_of 2 0x3000 56 0x4000 80
 
 -- the first chain, as it is popped
 abbrev pub first : InFlightChain
-first =
-    record {
-      places = blank;
-      queue = 0;
-      taken = queue;
-      loaded = first_loads;
-      descriptors = first_table;
-      head = 0;
-      phase = Fetched;
-    }
+first = popped 0 0 first_loads first_table
 
 -- the second chain, as it is popped
 abbrev pub second : InFlightChain
-second =
-    record {
-      places = blank;
-      queue = 0;
-      taken = record queue { position = 1 };
-      loaded = second_loads;
-      descriptors = second_table;
-      head = 2;
-      phase = Fetched;
-    }
+second = popped 1 2 second_loads second_table
 
 -- the first chain was decoded without options
 abbrev pub first_asked : InFlightChain
@@ -124,15 +90,11 @@ second_exchange = record {
 
 -- INIT's chain is in the used ring's first element
 abbrev pub second_used : List Store
-second_used =
-    record { address = 0x204; bytes = le32 2 } ∷ record { address = 0x208; bytes = le32 80 }
-    ∷ record { address = 0x202; bytes = le16 1 } ∷ []
+second_used = used_of 0 2 80
 
 -- LOOKUP's chain is in the second element
 abbrev pub first_used : List Store
-first_used =
-    record { address = 0x20c; bytes = le32 0 } ∷ record { address = 0x210; bytes = le32 16 }
-    ∷ record { address = 0x202; bytes = le16 2 } ∷ []
+first_used = used_of 1 0 16
 
 -- the session has option 1 from INIT's answer on. The chain that was decoded before is answered with the
 -- options of its decoding, and leaves option 1 in the session

@@ -1,5 +1,5 @@
 -- Two chains in flight at once, which are returned in the other order.
-use Rattle.std.specs.Prelude.{ℕ, true, List, [], ◌∷◌, Some, None}
+use Rattle.std.specs.Prelude.{ℕ, true, List, [], ◌∷◌, ◌+◌, ◌*◌, Some, None}
 use Rattle.fs_queue.specs.Chain.{Descriptor}
 use Rattle.fs_queue.specs.Loads.{Load}
 use Rattle.fs_queue.specs.Returning.{Store}
@@ -12,8 +12,7 @@ use Rattle.plain_machine.specs.Examples.{blank, descriptor_bytes, queue}
 use Rattle.plain_machine.specs.Step.{Exchange}
 use Rattle.live_machine.specs.Several.{LiveQueue, by_flags}
 use Rattle.live_machine.specs.Live.{Fetched, Asked, InFlightChain, LiveState, EndsPop, DecodesRequest}
-use Rattle.live_machine.specs.Live.{ReceivesAnswer}
-use Rattle.live_machine.specs.Live.{PushesChain, LiveRun}
+use Rattle.live_machine.specs.Live.{ReceivesAnswer, PushesChain, LiveRun}
 
 -- DESTROY, which makes a call
 abbrev pub destroy : List ℕ
@@ -27,35 +26,58 @@ unknown = in_header_bytes 40 7 2 0
 abbrev pub entry : (address : ℕ) → List ℕ → Load
 entry address bytes = record { address = address; came = Some bytes }
 
--- the loads of the first pop: an index of 2, head 0, and the table's first two entries
-abbrev pub first_loads : Loaded
-first_loads =
+-- the loads of a chain's pop: an index of 2, its head, and the table's two entries from there on, with a
+-- request of n bytes and a reply buffer of m
+abbrev pub loads_of : (head request n reply m : ℕ) → Loaded
+loads_of head request n reply m =
     record {
       index = Some (le16 2);
-      entry = Some (le16 0);
-      entries = entry 0 (descriptor_bytes 0x1000 40 1 1) ∷ entry 16 (descriptor_bytes 0x2000 16 2 0) ∷ [];
+      entry = Some (le16 head);
+      entries = entry (16 * head) (descriptor_bytes request n 1 (head + 1))
+          ∷ entry (16 * head + 16) (descriptor_bytes reply m 2 0) ∷ [];
     }
 
--- the loads of the second pop: head 2, and the other two entries
-abbrev pub second_loads : Loaded
-second_loads =
+-- these two descriptors
+abbrev pub table_of : (head request n reply m : ℕ) → List Descriptor
+table_of head request n reply m =
+    record { addr = request; len = n; flags = 1; next = head + 1 }
+    ∷ record { addr = reply; len = m; flags = 2; next = 0 } ∷ []
+
+-- a chain of the queue, as it is popped at this position
+abbrev pub popped : (position head : ℕ) → Loaded → List Descriptor → InFlightChain
+popped position head loaded descriptors =
     record {
-      index = Some (le16 2);
-      entry = Some (le16 2);
-      entries = entry 32 (descriptor_bytes 0x3000 40 1 3) ∷ entry 48 (descriptor_bytes 0x4000 16 2 0) ∷ [];
+      places = blank;
+      queue = 0;
+      taken = record queue { position = position };
+      loaded = loaded;
+      descriptors = descriptors;
+      head = head;
+      phase = Fetched;
     }
+
+-- what the return of a head with this length stores for the used ring's element k: the element, and the index
+abbrev pub used_of : (k head len : ℕ) → List Store
+used_of k head len =
+    record { address = 0x204 + 8 * k; bytes = le32 head }
+    ∷ record { address = 0x208 + 8 * k; bytes = le32 len }
+    ∷ record { address = 0x202; bytes = le16 (k + 1) } ∷ []
+
+-- the first pop's loads: head 0
+abbrev pub first_loads : Loaded
+first_loads = loads_of 0 0x1000 40 0x2000 16
+
+-- the second pop's: head 2
+abbrev pub second_loads : Loaded
+second_loads = loads_of 2 0x3000 40 0x4000 16
 
 -- the first chain's descriptors
 abbrev pub first_table : List Descriptor
-first_table =
-    record { addr = 0x1000; len = 40; flags = 1; next = 1 }
-    ∷ record { addr = 0x2000; len = 16; flags = 2; next = 0 } ∷ []
+first_table = table_of 0 0x1000 40 0x2000 16
 
 -- the second chain's
 abbrev pub second_table : List Descriptor
-second_table =
-    record { addr = 0x3000; len = 40; flags = 1; next = 3 }
-    ∷ record { addr = 0x4000; len = 16; flags = 2; next = 0 } ∷ []
+second_table = table_of 2 0x3000 40 0x4000 16
 
 -- the queue with its two positions
 abbrev pub at_positions : (taken next_used : ℕ) → LiveQueue
@@ -76,29 +98,11 @@ state files w options chains =
 
 -- the first chain, as it is popped
 abbrev pub first : InFlightChain
-first =
-    record {
-      places = blank;
-      queue = 0;
-      taken = queue;
-      loaded = first_loads;
-      descriptors = first_table;
-      head = 0;
-      phase = Fetched;
-    }
+first = popped 0 0 first_loads first_table
 
 -- the second chain, as it is popped
 abbrev pub second : InFlightChain
-second =
-    record {
-      places = blank;
-      queue = 0;
-      taken = record queue { position = 1 };
-      loaded = second_loads;
-      descriptors = second_table;
-      head = 2;
-      phase = Fetched;
-    }
+second = popped 1 2 second_loads second_table
 
 -- the first chain was decoded with the options 1
 abbrev pub first_asked : InFlightChain
@@ -126,17 +130,13 @@ second_exchange =
       fault = None;
     }
 
--- head, length and index: the second chain is in the used ring's first element
+-- the second chain is in the used ring's first element
 abbrev pub second_used : List Store
-second_used =
-    record { address = 0x204; bytes = le32 2 } ∷ record { address = 0x208; bytes = le32 16 }
-    ∷ record { address = 0x202; bytes = le16 1 } ∷ []
+second_used = used_of 0 2 16
 
 -- the first chain is in the second element
 abbrev pub first_used : List Store
-first_used =
-    record { address = 0x20c; bytes = le32 0 } ∷ record { address = 0x210; bytes = le32 0 }
-    ∷ record { address = 0x202; bytes = le16 2 } ∷ []
+first_used = used_of 1 0 0
 
 -- the second chain is popped, decoded and returned while the call of the first one is pending; DESTROY's
 -- answer leaves no options

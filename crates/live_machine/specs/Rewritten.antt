@@ -7,15 +7,14 @@ use Rattle.fs_queue.specs.Returning.{Store}
 use Rattle.fs_regions.specs.declared.step.CourseStep.TheVariants as step
 use Rattle.fs_regions.specs.Walks.{Loaded}
 use Rattle.fuse_fs.specs.Calls.{FileCall, Forget, Done}
-use Rattle.virtiofsd_fuse.specs.Examples.{le16, le32, le64, in_header_bytes, nobody}
+use Rattle.virtiofsd_fuse.specs.Examples.{le16, le64, in_header_bytes, nobody}
 use Rattle.virtiofsd_fuse.specs.Serving.{May}
 use Rattle.plain_machine.specs.Examples.{blank, descriptor_bytes}
 use Rattle.plain_machine.specs.Step.{Exchange}
 use Rattle.live_machine.specs.Several.{LiveQueue, by_flags}
 use Rattle.live_machine.specs.Live.{Fetched, Asked, InFlightChain, EndsPop, DecodesRequest, ReceivesAnswer}
-use Rattle.live_machine.specs.Live.{PushesChain}
-use Rattle.live_machine.specs.Live.{LiveRun}
-use Rattle.live_machine.specs.Overlap.{entry, state}
+use Rattle.live_machine.specs.Live.{PushesChain, LiveRun}
+use Rattle.live_machine.specs.Overlap.{entry, state, used_of}
 
 -- FORGET of node 5, with an nlookup of 3: it has no reply
 abbrev pub forget : List ℕ
@@ -81,9 +80,7 @@ exchange = record { head = 0; request = forget; reply = []; fault = None }
 
 -- head 0 and no length in the used ring's one element, and an index of 1
 abbrev pub used : List Store
-used =
-    record { address = 0x204; bytes = le32 0 } ∷ record { address = 0x208; bytes = le32 0 }
-    ∷ record { address = 0x202; bytes = le16 1 } ∷ []
+used = used_of 0 0 0
 
 -- the rewritten entry stops the queue; the chain in flight is served as it was loaded, and is returned
 abbrev pub Rewritten : {F : Type 0} → May F → Type 0

@@ -1,8 +1,7 @@
 -- Theorems that hold for each run.
-use Rattle.std.specs.Prelude.{◌≡◌, ◌≤◌, ◌/◌, ℕ, Bool, true, false, All, take, ◌==◌, List, [], ◌∷◌}
-use Rattle.std.specs.Prelude.{◌++◌, length}
-use Rattle.std.specs.Prelude.{map, filter, flat_map, is_some, IsPermutation, Option, Some, None, slice_get}
-use Rattle.std.specs.Prelude.{if◌then◌else◌}
+use Rattle.std.specs.Prelude.{◌≡◌, ◌≤◌, ◌/◌, ℕ, Bool, true, false, All, take, ◌==◌, List, [], ◌∷◌, ◌++◌}
+use Rattle.std.specs.Prelude.{length, map, filter, flat_map, is_some, IsPermutation, Option, Some, None}
+use Rattle.std.specs.Prelude.{slice_get, if◌then◌else◌}
 use Rattle.std.specs.List.{AllByRecursion, Contains, list_all, list_any}
 use Rattle.vm_iotlb.specs.declared.permissions.Permissions.TheVariants.{Read, Write}
 use Rattle.vm_memory_core.specs.Host.{changed_at}
@@ -25,14 +24,9 @@ use Rattle.live_machine.specs.Several.{unrecorded, used_event_at, wants, wish_at
 use Rattle.live_machine.specs.Several as several
 pub use Rattle.live_machine.specs.Live.{HasNoneInFlight}
 use Rattle.live_machine.specs.Live.{Phase, Asked, Own, InFlightChain, LiveState, LiveEvent, EndsPop}
-use Rattle.live_machine.specs.Live.{PushesChain}
-use Rattle.live_machine.specs.Live.{StoresNotification}
-use Rattle.live_machine.specs.Live.{ResetsQueue, FillsBuffer, GivesUpChain, Remaps, MovesDevice, Happens}
-use Rattle.live_machine.specs.Live.{LiveRun}
-use Rattle.live_machine.specs.Live.{event_acts}
-use Rattle.live_machine.specs.Live.{calls_among}
-use Rattle.live_machine.specs.Live.{LoadsAreMapped, calls_in, room_of, serving}
-use Rattle.live_machine.specs.Live.{own_exchange}
+use Rattle.live_machine.specs.Live.{PushesChain, StoresNotification, ResetsQueue, FillsBuffer, GivesUpChain}
+use Rattle.live_machine.specs.Live.{Remaps, MovesDevice, Happens, LiveRun, event_acts, calls_among}
+use Rattle.live_machine.specs.Live.{LoadsAreMapped, calls_in, room_of, serving, own_exchange}
 
 -- ---- the calls
 

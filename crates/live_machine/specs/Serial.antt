@@ -1,6 +1,5 @@
 -- One chain at a time: the plain machine's run for one available buffer notification.
-use Rattle.std.specs.Prelude.{◌≡◌, ℕ, Bool, List, [], ◌∷◌, ◌++◌, length, map, Option, Some, None}
-use Rattle.std.specs.Prelude.{slice_get}
+use Rattle.std.specs.Prelude.{◌≡◌, ℕ, Bool, List, [], ◌∷◌, ◌++◌, length, map, Option, Some, None, slice_get}
 use Rattle.std.specs.List.{AllByRecursion}
 use Rattle.vm_memory.specs.Memory.{Memory, location}
 use Rattle.fs_queue.specs.declared.fault.ChainFault.{ChainFault}
@@ -15,10 +14,7 @@ use Rattle.plain_machine.specs.Step.{State, Exchange, Exchanged, Step}
 use Rattle.plain_machine.specs.StepBy.{FindFlags, MayStoreLast, after_stores, stores_among}
 use Rattle.live_machine.specs.Several.{LacksEventIndex, LiveQueue}
 use Rattle.live_machine.specs.Live.{InFlightChain, LiveState, LiveEvent, EndsPop, DecodesRequest}
-use Rattle.live_machine.specs.Live.{ReceivesAnswer}
-use Rattle.live_machine.specs.Live.{PushesChain}
-use Rattle.live_machine.specs.Live.{LiveRun}
-use Rattle.live_machine.specs.Live.{calls_in, event_acts, room_of}
+use Rattle.live_machine.specs.Live.{ReceivesAnswer, PushesChain, LiveRun, calls_in, event_acts, room_of}
 use Rattle.live_machine.specs.Runs.{request_of_phase}
 
 -- a chain from its pop to its return, with the events between

@@ -14,12 +14,10 @@ use Rattle.fs_regions.specs.Walks.{IsLost, Loaded, RingIsAsked}
 use Rattle.fuse_fs.specs.Calls.{FileRun}
 use Rattle.virtiofsd_fuse.specs.Serving.{May}
 use Rattle.plain_machine.specs.declared.error.DeviceError.TheVariants as device
-use Rattle.plain_machine.specs.Step.{State, StepEnd, Idle, Refused, Exchange, Exchanged, Step}
-use Rattle.plain_machine.specs.Step.{with_queue}
+use Rattle.plain_machine.specs.Step.{State, StepEnd, Idle, Refused, Exchange, Exchanged, Step, with_queue}
 use Rattle.plain_machine.specs.StepBy.{Effects, MayStoreLast, StepLoads, StepBy, after_stores, stores_among}
 use Rattle.live_machine.specs.Live.{InFlightChain, LiveState, LiveEvent, EndsPop, PushesChain, Happens}
-use Rattle.live_machine.specs.Live.{LiveRun}
-use Rattle.live_machine.specs.Live.{LoadsAreMapped, calls_in, event_acts, room_of}
+use Rattle.live_machine.specs.Live.{LiveRun, LoadsAreMapped, calls_in, event_acts, room_of}
 use Rattle.live_machine.specs.Runs.{IsAStep, IsBefore, IsServedPhase, after_alone, request_of_phase}
 use Rattle.live_machine.specs.Several.{LacksEventIndex, LiveQueue, returning, seen_at}
 

@@ -1,6 +1,5 @@
 -- Two chains, one after the other, are a serial run.
-use Rattle.std.proofs.Common.{◌≡◌, ℕ, [], ◌∷◌, None, inl, refl, subst, sym, ap, ◌∙◌}
-use Rattle.std.specs.Prelude.{true}
+use Rattle.std.proofs.Common.{◌≡◌, ℕ, [], ◌∷◌, None, inl, refl, subst, sym, ap, ◌∙◌, true}
 use Rattle.vm_values.specs.Fields as fields
 use Rattle.vm_memory.specs.Layout.{place}
 use Rattle.vm_memory.specs.Memory.{addresses, stored_all}
@@ -17,29 +16,23 @@ use Rattle.virtiofsd_fuse.specs.Grammar.{meaning, meant, row}
 use Rattle.virtiofsd_fuse.specs.Serving.{May}
 use Rattle.plain_machine.specs.Examples.{queue}
 use Rattle.plain_machine.specs.StepBy.{FindFlags}
-use Rattle.live_machine.specs.Live.{DecodesRequest, DecodesRequestSo, EndsPop, EndsPopSo, PushesChainSo, ReceivesAnswerSo, event_acts}
-use Rattle.live_machine.specs.Overlap.{at_positions, destroy, first, first_loads, first_table, second, second_loads, second_table, state}
+use Rattle.live_machine.specs.Live.{DecodesRequest, DecodesRequestSo, EndsPop, EndsPopSo, PushesChainSo, event_acts}
+use Rattle.live_machine.specs.Overlap.{at_positions, destroy, first, first_loads, first_table, second, second_loads, state}
 use Rattle.live_machine.specs.Overlap.{unknown}
 use Rattle.live_machine.specs.Serial.{FoundIn, SerialRun, plain, return_in}
 use Rattle.live_machine.specs.Several.{LiveQueue}
 use Rattle.live_machine.specs.Steps.{IsAStepOver, ReturnedIsStep}
-use Rattle.live_machine.proofs.OverlapRun.{first_fetches, first_mapped, second_fetches, second_mapped}
+use Rattle.live_machine.proofs.OverlapRun.{first_fetches, first_there, second_fetches, second_there, answers, returns}
 use Rattle.live_machine.proofs.Queues.{same_some}
 use Rattle.worked_callers.specs.InARow.{after_both, after_one, first_asked, first_exchange, first_used, one, second_answered, second_asked}
-use Rattle.worked_callers.specs.InARow.{second_exchange, second_used, two, with_both}
+use Rattle.worked_callers.specs.InARow.{two, with_both}
 
 -- ---- the run
 
 first_walks : {F : Type 0} (f : F) →
     EndsPopSo (state f (at_positions 0 0) 1 []) 0 first_loads first_table (step.Chain 0 None) (state f (at_positions 1 0) 1 (first ∷ []))
-first_walks f = record {
-  w = at_positions 0 0;
-  there = refl;
-  room = refl;
-  proceeds = refl;
-  mapped = first_mapped;
-  ends = (first_fetches, refl, tt);
-}
+first_walks f =
+    record { w = at_positions 0 0; there = refl; room = refl; proceeds = refl; mapped = first_there; ends = (first_fetches, refl, tt) }
 
 first_asks : {F : Type 0} (f : F) →
     DecodesRequestSo (state f (at_positions 1 0) 1 (first ∷ [])) first unknown [] (state f (at_positions 1 0) 1 (first_asked ∷ []))
@@ -49,71 +42,7 @@ first_asks f = record { before = []; behind = []; out = refl; fresh = refl; whol
 first_returns : {F : Type 0} (f : F) → PushesChainSo (state f (at_positions 1 0) 1 (first_asked ∷ [])) first_asked first_exchange true 0
     first_used (le16 0) (state f (at_positions 1 1) 1 [])
 unfolding addresses meaning record_parser meant row reply_bytes error_bytes fields.field_bytes
-first_returns f = record {
-  before = [];
-  behind = [];
-  out = refl;
-  w = at_positions 1 0;
-  there = refl;
-  proceeds = (refl, refl);
-  used_is = refl;
-  two = refl;
-  reported = refl;
-  state = refl;
-}
-
-second_walks : {F : Type 0} (f : F) →
-    EndsPopSo (state f (at_positions 1 1) 1 []) 0 second_loads second_table (step.Chain 2 None) (state f (at_positions 2 1) 1 (second ∷ []))
-second_walks f = record {
-  w = at_positions 1 1;
-  there = refl;
-  room = refl;
-  proceeds = refl;
-  mapped = second_mapped;
-  ends = (second_fetches, refl, tt);
-}
-
-second_asks : {F : Type 0} (f : F) →
-    DecodesRequestSo (state f (at_positions 2 1) 1 (second ∷ [])) second destroy (Destroy ∷ [])
-    (state f (at_positions 2 1) 1 (second_asked ∷ []))
-unfolding addresses meaning record_parser meant row reply_bytes error_bytes fields.field_bytes
-second_asks f = record { before = []; behind = []; out = refl; fresh = refl; whole = refl; reports = refl; state = refl }
-
-second_answers : {F : Type 0} (may : May F) (before after : F) → may before Destroy Done after →
-    ReceivesAnswerSo may (state before (at_positions 2 1) 1 (second_asked ∷ [])) second_asked Destroy Done
-    (state after (at_positions 2 1) 0 (second_answered ∷ []))
-unfolding addresses meaning record_parser meant row reply_bytes error_bytes fields.field_bytes
-second_answers may before after so = record {
-  before = [];
-  behind = [];
-  out = refl;
-  request = destroy;
-  options = 1;
-  calls = [];
-  asked = refl;
-  pending = refl;
-  is_one = refl;
-  files = after;
-  may_so = so;
-  state = refl;
-}
-
-second_returns : {F : Type 0} (f : F)
-    → PushesChainSo (state f (at_positions 2 1) 0 (second_answered ∷ [])) second_answered second_exchange true
-    0 second_used (le16 0) (state f (at_positions 2 2) 0 [])
-unfolding addresses meaning record_parser meant row reply_bytes error_bytes fields.field_bytes
-second_returns f = record {
-  before = [];
-  behind = [];
-  out = refl;
-  w = at_positions 2 1;
-  there = refl;
-  proceeds = (refl, refl);
-  used_is = refl;
-  two = refl;
-  reported = refl;
-  state = refl;
-}
+first_returns f = returns [] (at_positions 1 0) refl refl (refl, refl) refl refl refl
 
 -- ---- what the memory has
 
@@ -168,6 +97,7 @@ second_found f = record {
 
 pub in_a_row : {F : Type 0} (may : May F) (before after : F) → may before Destroy Done after →
     SerialRun may 0 with_both (state before (at_positions 0 0) 1 []) (one ∷ two ∷ []) after_both (state after (at_positions 2 2) 0 [])
+unfolding addresses meaning record_parser meant row reply_bytes error_bytes fields.field_bytes
 in_a_row {F} may before after so = (
   state before (at_positions 1 1) 1 [],
   refl,
@@ -188,14 +118,14 @@ in_a_row {F} may before after so = (
     (tt, (tt, tt)),
     (
       state before (at_positions 2 1) 1 (second ∷ []),
-      second_walks before,
+      record { w = at_positions 1 1; there = refl; room = refl; proceeds = refl; mapped = second_there; ends = (second_fetches, refl, tt) },
       (
         state before (at_positions 2 1) 1 (second_asked ∷ []),
-        second_asks before,
+        record { before = []; behind = []; out = refl; fresh = refl; whole = refl; reports = refl; state = refl },
         (
           state after (at_positions 2 1) 0 (second_answered ∷ []),
-          second_answers may before after so,
-          (state after (at_positions 2 2) 0 [], second_returns after, refl),
+          answers [] destroy 1 after refl refl refl refl so refl,
+          (state after (at_positions 2 2) 0 [], returns [] (at_positions 2 1) refl refl (refl, refl) refl refl refl, refl),
         ),
       ),
     ),

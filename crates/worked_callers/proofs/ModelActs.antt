@@ -30,11 +30,9 @@ use Rattle.fs_notify.specs.Givers.{PublishesByStore, rules_of}
 use Rattle.fs_notify.specs.Takers.{DropIsAnAct, FindsNoneByPop, HasPopped, HasU16Numbers, IsIndex, IsModelOf, RearmsByStore, ShowsWish}
 use Rattle.fs_notify.specs.Takers.{TakesByPop, ways_of}
 use Rattle.worked_callers.specs.Notified.{ActsTo, IsStoredWish}
+use Rattle.live_machine.proofs.Queues.{none_some}
 
 -- ---- the wish
-
-none_some : (store : Store) → ◌≡◌ {A = Option Store} None (Some store) → ⊥
-none_some store is = cc
 
 pub wish_is : RearmsByStore → (q : QueueState) (store : Option NotificationStore) → option_map store_of store ≡ notification_store q true
     → HasU16Numbers q → (s : ThreadedQueue) → IsModelOf q s → s.holder ≡ Walker → IsStoredWish q s store
@@ -99,14 +97,8 @@ pub full_so : (w : ChainHandle) (q : QueueState) → w.state ≡ at.Free → Ref
 full_so w q free why = elim why [
   | inl due ↦ subst (λ (st : state.ChainState). walk_error st q (if load_len st == 0 then 0 else load_len st)
       ≡ Some error.ChainInFlight) free due.1
-  | inr other ↦ elim other [ inl lacks ↦ absurd (not_memory lacks.0) | inr bad ↦ absurd (not_argument bad.0) ]
+  | inr other ↦ elim other [ inl lacks ↦ absurd (cc lacks.0) | inr bad ↦ absurd (cc bad.0) ]
 ]
-  where
-    not_memory : error.ChainInFlight ≡ error.OutOfMemory → ⊥
-    not_memory is = cc
-
-    not_argument : error.ChainInFlight ≡ error.BadArgument → ⊥
-    not_argument is = cc
 
 -- ---- the push
 

@@ -1,6 +1,5 @@
 -- What a call of a pop came to in a run: the end of a pop, or a miss.
-use Rattle.std.proofs.Common.{◌≡◌, ◌⊎◌, inl, inr, ◌≤◌, ◌<◌, ◌+◌, ◌^◌, ℕ, Bool, List, [], ◌∷◌, Option, Some, None, subst}
-use Rattle.std.proofs.Common.{sym}
+use Rattle.std.proofs.Common.{◌≡◌, ◌⊎◌, inl, inr, ◌≤◌, ◌<◌, ◌+◌, ◌^◌, ℕ, Bool, List, [], ◌∷◌, Option, Some, None, subst, sym}
 use Rattle.std.specs.Prelude.{true, false, if◌then◌else◌}
 use Rattle.vm_iotlb.specs.declared.iova.IovaRange.{IovaRange}
 use Rattle.vm_iotlb.specs.declared.permissions.Permissions.{Permissions}
@@ -27,6 +26,7 @@ use Rattle.fs_chain.specs.declared.queue.QueueState.{QueueState}
 use Rattle.fs_chain.specs.declared.state.ChainState as state
 use Rattle.fs_chain.specs.declared.state.ChainState.TheVariants as at
 use Rattle.fs_notify.specs.Takers.{HasPopped}
+use Rattle.live_machine.proofs.Queues.{none_some}
 
 -- ---- a pop that ended
 
@@ -74,9 +74,6 @@ pop_ends old new q q' bytes came reported s i p runs pops is end from there plac
     )
 
 -- ---- a pop that misses
-
-none_some : {A : Type 0} (x : A) → ◌≡◌ {A = Option A} None (Some x) → ⊥
-none_some x is = cc
 
 by_event : (b : Bool) (m : Memory) (areas : List Area) (range : IovaRange) (access : Permissions)
     → (if b then first_miss m areas else None) ≡ Some (range, access) → first_miss m areas ≡ Some (range, access)

@@ -1,6 +1,5 @@
 -- The results of calls: a freed handle, and what holds of a result.
-use Rattle.std.proofs.Common.{◌≡◌, ℕ, ◌+◌, ◌^◌, Bool, None, Result, Ok, Err, IfOk, OnOk, sym, ap, ◌∙◌}
-use Rattle.std.specs.Prelude.{◌%◌, if◌then◌else◌}
+use Rattle.std.proofs.Common.{◌≡◌, ℕ, ◌+◌, ◌^◌, Bool, None, Result, Ok, Err, IfOk, OnOk, sym, ap, ◌∙◌, ◌%◌, if◌then◌else◌}
 use Rattle.fs_chain.specs.declared.queue.QueueState.{QueueState}
 use Rattle.fs_chain.specs.declared.state.ChainReply.{ChainReply}
 use Rattle.fs_chain.specs.declared.state.InFlight.{InFlight}

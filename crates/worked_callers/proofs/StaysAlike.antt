@@ -1,6 +1,5 @@
 -- Mappings that stay for descriptors, if another table maps the same addresses alike.
-use Rattle.std.proofs.Common.{◌+◌, List, ◌∙◌}
-use Rattle.std.specs.Prelude.{All, get_or}
+use Rattle.std.proofs.Common.{◌+◌, List, ◌∙◌, All, get_or}
 use Rattle.vm_iotlb.specs.Table.{AreSame, Table}
 use Rattle.fs_queue.specs.Chain.{Descriptor}
 use Rattle.fs_regions.specs.Using.{StaysFor}

@@ -3,13 +3,13 @@ use Rattle.std.specs.Prelude.{ℕ, true, List, [], ◌∷◌, ◌++◌, None}
 use Rattle.vm_memory.specs.Memory.{Memory}
 use Rattle.fs_queue.specs.Returning.{Store}
 use Rattle.fuse_fs.specs.Calls.{Destroy, Done}
-use Rattle.virtiofsd_fuse.specs.Examples.{le16, le32, zeros}
+use Rattle.virtiofsd_fuse.specs.Examples.{le16, zeros}
 use Rattle.plain_machine.specs.Examples.{blank, descriptor_bytes, put}
 use Rattle.plain_machine.specs.Step.{Exchange}
 use Rattle.plain_machine.specs.StepBy.{after_stores, stores_among}
 use Rattle.live_machine.specs.Live.{Asked, DecodesRequest, InFlightChain, ReceivesAnswer, event_acts}
 use Rattle.live_machine.specs.Overlap.{destroy, first, first_loads, first_table, second, second_loads}
-use Rattle.live_machine.specs.Overlap.{second_table, unknown}
+use Rattle.live_machine.specs.Overlap.{second_table, unknown, used_of}
 use Rattle.live_machine.specs.Serial.{Single, return_in}
 
 -- the table's four descriptors
@@ -52,14 +52,10 @@ second_exchange = record { head = 2; request = destroy; reply = []; fault = None
 
 -- the first used element's head and length, and the used index; then those of the second one
 abbrev pub first_used : List Store
-first_used =
-    record { address = 0x204; bytes = le32 0 } ∷ record { address = 0x208; bytes = le32 16 }
-    ∷ record { address = 0x202; bytes = le16 1 } ∷ []
+first_used = used_of 0 0 16
 
 abbrev pub second_used : List Store
-second_used =
-    record { address = 0x20c; bytes = le32 2 } ∷ record { address = 0x210; bytes = le32 0 }
-    ∷ record { address = 0x202; bytes = le16 2 } ∷ []
+second_used = used_of 1 2 0
 
 -- the first chain, from its pop to its return
 abbrev pub one : Single

@@ -3,8 +3,7 @@ use Rattle.std.specs.Prelude.{◌≡◌, ℕ, List, [], ◌∷◌, Option, Some,
 use Rattle.std.specs.Int.{w16, to_le_bytes}
 use Rattle.fs_chain.specs.declared.notifications.NotificationStore.{NotificationStore}
 use Rattle.fs_chain.specs.declared.queue.QueueState.{QueueState}
-use Rattle.notify.specs.Threads.{ThreadedQueue, ThreadStep, ActsOver, after_act}
-use Rattle.notify.specs.Threads.{Wishes, WishIsThere}
+use Rattle.notify.specs.Threads.{ThreadedQueue, ThreadStep, ActsOver, after_act, Wishes, WishIsThere}
 use Rattle.fs_notify.specs.Takers.{IsModelOf, ShowsWish, ways_of, wish_at}
 
 -- the store that was returned is the wish in memory, after two acts of the model's thread

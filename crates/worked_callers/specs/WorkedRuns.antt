@@ -7,8 +7,7 @@ use Rattle.plain_machine.specs.Step.{Exchange, State}
 use Rattle.virtiofsd_fuse.specs.Examples.{le16}
 use Rattle.virtiofsd_fuse.specs.Serving.{May}
 use Rattle.live_machine.specs.Live.{DecodesRequest, EndsPop, Happens, LiveEvent, LiveRun, LiveState}
-use Rattle.live_machine.specs.Live.{InFlightChain}
-use Rattle.live_machine.specs.Live.{PushesChain, ReceivesAnswer, calls_in}
+use Rattle.live_machine.specs.Live.{InFlightChain, PushesChain, ReceivesAnswer, calls_in}
 use Rattle.live_machine.specs.Overlap as overlap
 use Rattle.live_machine.specs.Rounds.{BeginsEvent, CopiesByte, GuestWrites, MarksPages, Migration}
 use Rattle.live_machine.specs.Rounds.{RoundMoment, StoresByte, TakesMarks}

@@ -1,16 +1,14 @@
 //! Runs of pops and returns on one queue, and of chains one after another: laws of the live machine on
 //! worked values.
 
-ghost use Rattle.std.specs.Prelude.{◌≡◌, ◌<◌, ◌^◌, ℕ, [], ◌∷◌, List, Some, None, true};
-ghost use Rattle.std.specs.Prelude.{slice_get};
+ghost use Rattle.std.specs.Prelude.{◌≡◌, ◌<◌, ◌^◌, ℕ, [], ◌∷◌, List, Some, None, true, slice_get};
 ghost use Rattle.vm_memory.specs.Memory.{Memory};
 ghost use Rattle.fs_queue.specs.Returning.{Store, next_position};
 ghost use Rattle.plain_machine.specs.Run.{KickRun};
 ghost use Rattle.fs_chain.specs.declared.state.ChainState.TheVariants as at;
 ghost use Rattle.live_machine.specs.Live.{LiveState};
 ghost use Rattle.live_machine.specs.Overlap.{at_positions, state};
-ghost use Rattle.live_machine.specs.Serial.{IsAtRest, SerialRun, Single, plain, return_in};
-ghost use Rattle.live_machine.specs.Serial.{turn_of};
+ghost use Rattle.live_machine.specs.Serial.{IsAtRest, SerialRun, Single, plain, return_in, turn_of};
 ghost use Rattle.live_machine.specs.Several.{AtTheirPositions, LiveQueue};
 ghost use Rattle.live_machine.specs.Steps.{IsAStepOver};
 ghost use Rattle.virtiofsd_fuse.specs.Examples.{le16};
