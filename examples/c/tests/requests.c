@@ -217,6 +217,7 @@ int main(int count, char **paths) {
     struct pk_region region = {.guest = 0, .len = MEMORY, .host = (uintptr_t)memory};
     queue = (struct pk_queue){.desc = DESC, .avail = AVAIL, .used = USED, .size = SIZE};
     begin();
+    if (count < 2) stop("no file is named: requests FILE..");
     if (pk_queue_begin(&queue, 0) || pk_chain_set_memory(&chain, &device, &region, 1))
         stop("no queue, or no memory");
     for (int k = 1; k < count; k++) play_file(paths[k]);
