@@ -22,7 +22,7 @@ use Rattle.fs_record.specs.declared.fields.RecordVersion.{RecordVersion}
 use Rattle.fs_record.specs.declared.fields.RecordVersion.TheVariants as versions
 use Rattle.fs_record.specs.declared.error.RestoreError.{RestoreError}
 use Rattle.fs_record.specs.declared.error.RestoreError.TheVariants.{Truncated, BadMagic, BadVersion, BadCount, BadReserved, BadQueue}
-use Rattle.fs_record.specs.declared.error.RestoreError.TheVariants.{BadOptions, ReadFault, OutOfMemory, Mismatch}
+use Rattle.fs_record.specs.declared.error.RestoreError.TheVariants.{BadOptions, ReadFault, Mismatch}
 
 -- the next queue's bytes, and then those of the later ones
 pub next_queue : (queues : List Queue) (i : ℕ) (q : Queue) → i < length queues → q ≡ get_or queues i q →

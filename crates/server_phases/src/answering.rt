@@ -1,11 +1,11 @@
 //! The replies to the answers of calls.
 
-ghost use Rattle.std.specs.Prelude.{◌≡◌, ℕ, ◌+◌, ◌<◌, ◌≤◌, ◌^◌, ◌++◌, ◌&&◌, [], ◌∷◌, List, length, true};
-ghost use Rattle.std.specs.Prelude.{false, nat_lt, nat_le, option_map};
+ghost use Rattle.std.specs.Prelude.{◌≡◌, ℕ, ◌+◌, ◌<◌, ◌^◌, ◌++◌, ◌&&◌, [], ◌∷◌, List, length, true};
+ghost use Rattle.std.specs.Prelude.{false, nat_lt, nat_le};
 ghost use Rattle.fuse_fs.specs.Calls.{FileCall, is_handle, Done, Bytes};
 ghost use Rattle.fuse_values.specs.Answers.{answer_of};
 ghost use Rattle.server_replies.specs.WholeReplies.{reply_bytes, reported_bytes};
-ghost use Rattle.server_calls.specs.Requests.{entry_node, forget_node};
+ghost use Rattle.server_calls.specs.Requests.{entry_node};
 ghost use Rattle.virtiofsd_fuse.specs.Serving.{replied, undone};
 ghost use Rattle.server_phases.specs.Answering.{ReportsBytes, takes, reports_nothing, fails_never};
 ghost use Rattle.server_phases.specs.Answering.{brings_entry};

@@ -1,6 +1,6 @@
 //! READDIR and READDIRPLUS: writes the entries of a directory straight into the reply.
 
-ghost use Rattle.std.specs.Prelude.{◌≡◌, ◌+◌, ◌<◌, ◌≤◌, ◌^◌, Bool, true, false, List, ℕ, [], ◌++◌, length};
+ghost use Rattle.std.specs.Prelude.{◌≡◌, ◌+◌, ◌<◌, ◌≤◌, ◌^◌, true, false, List, [], ◌++◌, length};
 ghost use Rattle.std.specs.Prelude.{OnOk, OnErr};
 ghost use Rattle.fuse_in.specs.declared.files.ReadIn.{ReadIn};
 ghost use Rattle.fuse_fs.specs.Answers.{listed, numbered, context_of};

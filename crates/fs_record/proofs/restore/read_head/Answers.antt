@@ -1,4 +1,4 @@
-use Rattle.std.proofs.Common.{rules, refl}
+use Rattle.std.proofs.Common.{refl}
 use Rattle.vm_values.specs.Fields.{spelled}
 use Rattle.fs_record.specs.Fields.{head_fields}
 use Rattle.fs_record.proofs.QueueLemmas.{head_leaves, head_refuses, if_err}

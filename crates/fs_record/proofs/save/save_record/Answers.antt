@@ -1,4 +1,4 @@
-use Rattle.std.proofs.Common.{List, rules, refl, sym, ap, ◌∙◌, ◌≡◌, ◌+◌, ◌<◌, [], ◌++◌, length, drop, take_all, subst, append_assoc}
+use Rattle.std.proofs.Common.{List, rules, sym, ap, ◌∙◌, ◌≡◌, ◌+◌, ◌<◌, [], ◌++◌, length, drop, take_all, subst, append_assoc}
 use Rattle.std.proofs.lemmas.List.{drop_all}
 use Rattle.std.specs.Prelude.{All}
 use Rattle.std.specs.List.{flat_map}
