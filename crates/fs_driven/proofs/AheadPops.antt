@@ -1,7 +1,5 @@
 -- A pop by loads ahead drives the run.
-use Rattle.std.proofs.Common.{◌≡◌, ℕ, List, [], ◌∷◌, Some, None}
-use Rattle.std.proofs.Common.{refl, subst, sym, ap, ◌∙◌}
-use Rattle.std.specs.Prelude.{Result, Ok, Err, IfErr, IfOk, OnErr, OnOk}
+use Rattle.std.proofs.Common.{◌≡◌, ℕ, List, [], ◌∷◌, Some, None, refl, subst, sym, ap, ◌∙◌, Result, Ok, Err, IfErr, IfOk, OnErr, OnOk}
 use Rattle.std.specs.Borrow.{Bor}
 use Rattle.fs_chain.specs.declared.error.ChainError.{ChainError}
 use Rattle.fs_chain.specs.declared.error.ChainError.TheVariants.{WrongOrder}
@@ -9,7 +7,7 @@ use Rattle.fs_chain.specs.Ahead.{PopsAhead, WalksAhead, ahead_error}
 use Rattle.fs_chain.proofs.HoldsAhead.{steps_ahead}
 use Rattle.fs_chain.specs.Holds.{pop_of}
 use Rattle.fs_chain.specs.Loads.{ProceedsSo, whole}
-use Rattle.fs_chain.specs.Orders.{load_len}
+use Rattle.fs_chain.specs.Orders.{load_len, is_out}
 use Rattle.fs_chain.specs.Walks.{WalksFrom}
 use Rattle.fs_regions.specs.Ahead.{AheadBytes, last_first, loads_ahead}
 use Rattle.fs_regions.specs.declared.ahead.LoadAhead.{LoadAhead}
@@ -17,7 +15,6 @@ use Rattle.fs_chain.specs.declared.loads.LoadOutcome as outcome
 use Rattle.fs_chain.specs.declared.loads.LoadOutcome.TheVariants as outcomes
 use Rattle.fs_chain.specs.declared.popping.PopOutcome as walked
 use Rattle.fs_driven.specs.Reported.{DrivesOne, Reports, transition}
-use Rattle.fs_chain.specs.Orders.{is_out}
 use Rattle.fs_chain.specs.declared.chain_handle.ChainHandle.{ChainHandle}
 use Rattle.fs_driven.specs.declared.commands.Command.TheVariants as does
 use Rattle.fs_driven.specs.declared.commands.Returned.TheVariants as gives

@@ -1,7 +1,6 @@
 -- The chains of a driver's handles, one among others, and elements of a list by their places.
-use Rattle.std.proofs.Common.{inl, inr, ◌≡◌, ◌⊎◌, ℕ, Bool, true, false, List, [], ◌∷◌, ◌++◌, Option}
-use Rattle.std.proofs.Common.{Some, None, slice_get}
-use Rattle.std.proofs.Common.{refl, subst, sym, ap, ◌∙◌, eqb-true, ◌==◌}
+use Rattle.std.proofs.Common.{inl, inr, ◌≡◌, ◌⊎◌, ℕ, Bool, true, false, List, [], ◌∷◌, ◌++◌, Some, slice_get, refl, subst}
+use Rattle.std.proofs.Common.{sym, ap, ◌∙◌, eqb-true, ◌==◌}
 use Rattle.vm_memory_core.specs.Host.{changed_at}
 use Rattle.live_machine.specs.Live.{InFlightChain}
 use Rattle.live_machine.proofs.Alone.{all_both}
@@ -54,12 +53,8 @@ pub same_chain : (j k : ℕ) (d c : InFlightChain) → own j d ≡ own k c → d
 same_chain j k d c e = ap (λ (o : Owned). o.chain) e
 
 -- a handle's chain isn't one without a handle
-abbrev IsNobodys : Option ℕ → Type 0
-IsNobodys None = Unit {0}
-IsNobodys (Some k) = ⊥
-
 pub not_lost : (k : ℕ) (d c : InFlightChain) → lost d ≡ own k c → ⊥
-not_lost k d c e = subst (λ (o : Owned). IsNobodys o.handle) e tt
+not_lost k d c e = cc (ap (λ (o : Owned). o.handle) e)
 
 -- another handle's chain isn't handle k's
 pub others_apart : (j k : ℕ) (d c : InFlightChain) (ob oh : List Owned) → HasNone k ob × HasNone k oh →

@@ -1,7 +1,5 @@
 -- An answer drives the run.
-use Rattle.std.proofs.Common.{◌≡◌, ℕ, true, List, [], ◌∷◌, ◌++◌, length, Option, Some, None}
-use Rattle.std.proofs.Common.{slice_get}
-use Rattle.std.proofs.Common.{refl, subst, sym, ap}
+use Rattle.std.proofs.Common.{◌≡◌, ℕ, true, List, [], ◌∷◌, ◌++◌, length, Option, Some, None, slice_get, refl, subst, sym, ap}
 use Rattle.std.specs.Prelude.{Result, Ok, Err, IfErr, IfOk, OnOk, OnErr}
 use Rattle.fs_chain.specs.declared.error.ChainError.{ChainError}
 use Rattle.fs_chain.specs.Walks.{IsAllBut}
@@ -16,21 +14,13 @@ use Rattle.server_phases.specs.Answering.{ReportsBytes, forget_calls}
 use Rattle.fuse_fs.specs.Calls.{Done, FileAnswer, FileCall, Forget}
 use Rattle.server_phases.specs.declared.session.Session.{Session}
 use Rattle.live_machine.specs.Several.{LiveQueue}
-use Rattle.live_machine.specs.Live.{Asked, InFlightChain}
-use Rattle.live_machine.specs.Live.{LiveEvent, LiveRun}
-use Rattle.live_machine.specs.Live.{Phase}
-use Rattle.live_machine.specs.Live.{ReceivesAnswer, after_answer}
-use Rattle.live_machine.specs.Live.{asked_chain}
-use Rattle.live_machine.specs.Live.{Happens, room_of, serving}
+use Rattle.live_machine.specs.Live.{Asked, InFlightChain, LiveEvent, LiveRun, Phase, ReceivesAnswer, after_answer, asked_chain, Happens}
+use Rattle.live_machine.specs.Live.{room_of, serving}
 use Rattle.fs_chain.specs.Answers.{CanBeGiven, IfWaits, IsGiven, IsNotTaken, IsWaiting}
 use Rattle.fs_driven.specs.Desks.{Begun, Desk, IsReady, own, with_pop}
-use Rattle.fs_driven.specs.Reported.{Reports, DrivesOne, Unseen, data_of, forgetting}
-use Rattle.fs_driven.specs.Reported.{transition}
+use Rattle.fs_driven.specs.Reported.{Reports, DrivesOne, Unseen, data_of, forgetting, transition}
 use Rattle.fs_driven.specs.Preserved.{KeepsMemory}
-use Rattle.fs_chain.specs.Holds.{Answers, ForgettingIs, HoldsChain, served_so}
-use Rattle.fs_chain.specs.Holds.{IsHeldIn}
-use Rattle.fs_chain.specs.Holds.{Machine, Pop}
-use Rattle.fs_chain.specs.Holds.{any_files, live_of}
+use Rattle.fs_chain.specs.Holds.{Answers, ForgettingIs, HoldsChain, served_so, IsHeldIn, Machine, Pop, any_files, live_of}
 use Rattle.fs_chain.specs.Orders.{is_out}
 use Rattle.fs_chain.specs.Together.{Owned, with_handle}
 use Rattle.fs_chain.specs.declared.answering.Replied.{Replied}
@@ -43,8 +33,7 @@ use Rattle.fs_chain.specs.declared.state.ChainState.TheVariants as at
 use Rattle.fs_driven.proofs.Handles.{Moves, has_own, held_out, keeps, others_same}
 use Rattle.fs_driven.proofs.Spots.{DrivenAt, DrivesAt, LeadsAt, Spot, desk_after, desk_before, drives_one}
 use Rattle.fs_chain.proofs.Together.{chains_of}
-use Rattle.fs_driven.proofs.Calls.{HasNoPush, done_ready, fits_out, length_exactly, refuses}
-use Rattle.fs_driven.proofs.Calls.{replied_no_push, same_all, same_held}
+use Rattle.fs_driven.proofs.Calls.{HasNoPush, done_ready, fits_out, length_exactly, refuses, replied_no_push, same_all, same_held}
 
 -- ---- answer
 
@@ -174,9 +163,8 @@ answer_drives : (page_size : ℕ) (old new : ChainHandle) (q : QueueState) (seri
     → DrivesAt page_size old new q q (does.Answer serial a) (gives.Answered (Ok reported))
 unfolding Answers
 answer_drives page_size old new q serial a reported waits given answers kept ws k there u s i os pops push all =
-    let own_one = all.outs old there (waits_out old.state waits) in
-    let c = own_one.0 in
-    let has = has_own s i page_size q ws os k old c pops push all there own_one.1 in
+    let has = has_own s i page_size q ws os k old pops push all there (all.outs old there (waits_out old.state waits)) in
+    let c = has.c in
     let asked = waits_asked s.page_size c c.phase old.state old.session waits has.holds in
     let bytes : List ℕ = data_of a u in
     let an = answers s (chains_of has.ob) (chains_of has.oh) c asked.0 bytes asked.1 has.chains asked.2
@@ -186,12 +174,12 @@ answer_drives page_size old new q serial a reported waits given answers kept ws 
     (λ es d. Reports (transition i.number page_size k (desk_before s i ws os pops) d old new q q) (does.Answer serial a) u
     (gives.Answered (Ok reported)) es)
     has.driven there
-    (all.mine old c there own_one.1).0 (kept.0.0.0, kept.0.0.1) an.1.0 an.1.1
+    has.mine.0 (kept.0.0.0, kept.0.0.1) an.1.0 an.1.1
     (replied_no_push (served_so s.page_size asked.1 asked.0
     (length (addresses_of (writable c.descriptors))) ((an.0, answer_of bytes a) ∷ [])).reply bytes new.state
     an.1.4)
     an.1.2 an.1.5
-    (λ after os' loads'. (given, (kept.0, refl), kept.1, c, an.0, asked.0, asked.1, own_one.1, asked.2, refl))
+    (λ after os' loads'. (given, (kept.0, refl), kept.1, c, an.0, asked.0, asked.1, has.is_in, asked.2, refl))
 
 -- ---- by what the call ensures
 

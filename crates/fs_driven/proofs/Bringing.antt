@@ -8,11 +8,10 @@ use Rattle.std.proofs.lemmas.Bool.{ne_eqb}
 use Rattle.live_machine.proofs.Alone.{all_both}
 use Rattle.fuse_fs.specs.declared.answers.Entry.{Entry}
 use Rattle.server_replies.specs.Entries.{no_node}
-use Rattle.server_phases.specs.Gathering.{Brought, added_found, added_plain}
+use Rattle.server_phases.specs.Gathering.{Brought, added_found, added_plain, Holds}
 use Rattle.server_phases.specs.declared.listing.Listing.{Listing}
 use Rattle.server_phases.specs.declared.listing.NotAdded.{NotAdded}
 use Rattle.live_machine.specs.Live.{InFlightChain}
-use Rattle.server_phases.specs.Gathering.{Holds}
 use Rattle.server_phases.specs.declared.session.Session.{Session}
 use Rattle.fs_chain.specs.Holds.{IsDecodedIn}
 use Rattle.fs_chain.specs.HoldsListings.{AddsEntry, HoldsListing}
@@ -70,12 +69,8 @@ brings_found old new serial list list' e name given node reported is same number
     subst (λ (o : Option (Entry ℕ)). BringsOne old new serial list list' (record e { node = o }) name reported)
     (ap (λ (n : Entry ℕ). Some n) same ∙ sym is) found
 
-abbrev IsIn : Result Added ChainError → Type 0
-IsIn (Ok reported) = Unit {0}
-IsIn (Err e) = ⊥
-
 not_in_error : (reported : Added) (e : ChainError) → Ok reported ≡ Err e → ⊥
-not_in_error reported e is = subst (λ (r : Result Added ChainError). IsIn r) is tt
+not_in_error reported e is = cc
 
 -- an entry that was looked at
 looked_at : (old new : ChainHandle) (serial : ℕ) (list list' : List ℕ) (e : ListedEntry) (name : List ℕ) (reported : Added)
@@ -94,11 +89,8 @@ GathersOn st new mine serial =
 gathers_on : (st new : state.ChainState) (mine serial : ℕ) (list list' : List ℕ) (e : Brought)
     (outcome : Listing → Result (Unit {0}) NotAdded) (reported : Added)
     → AddsTo st new list list' e outcome (Ok reported) → GathersOn st new mine serial
-gathers_on (at.Lists out l) new mine serial list list' e outcome reported adds = (
-  refl,
-  ap is_listing adds.1.1,
-  ap (λ (s : state.ChainState). serial_error s mine serial) adds.1.1,
-)
+gathers_on (at.Lists out l) new mine serial list list' e outcome reported adds =
+    (refl, ap is_listing adds.1.1, ap (λ (s : state.ChainState). serial_error s mine serial) adds.1.1)
 gathers_on _ new mine serial list list' e outcome reported adds = absurd (not_in_error reported _ adds.0)
 
 first_none : (a b : Option ChainError) → option_or a b ≡ None → a ≡ None
@@ -272,10 +264,7 @@ unmoved (at.Lists out l) new list list' e outcome x adds = by_outcome (outcome l
     by_outcome : (r : Result (Unit {0}) NotAdded) → Err x ≡ reported_added r → Adds l adds.1.0 list list' e r
         → (new ≡ at.Lists out l) × (list' ≡ list)
     by_outcome (Ok done) reported is = absurd (not_in_error added.In x (sym reported))
-    by_outcome (Err why) reported is = (
-      adds.1.1 ∙ ap (λ (k : Listing). at.Lists out k) (is.same why refl).0,
-      (is.same why refl).1,
-    )
+    by_outcome (Err why) reported is = (adds.1.1 ∙ ap (λ (k : Listing). at.Lists out k) (is.same why refl).0, (is.same why refl).1)
 unmoved _ new list list' e outcome x adds = (adds.1, adds.2)
 
 refused_same : (old new : ChainHandle) (serial : ℕ) (list list' : List ℕ) (e : ListedEntry) (name : List ℕ) (x : ChainError)

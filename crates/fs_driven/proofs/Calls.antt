@@ -1,9 +1,9 @@
 -- A call of a handle among others that is refused, or changes nothing of the run.
-use Rattle.std.proofs.Common.{◌≡◌, ℕ, Bool, true, false, List, [], ◌∷◌, ◌++◌, length, Option, Some, None}
-use Rattle.std.proofs.Common.{slice_get}
-use Rattle.std.proofs.Common.{refl, subst, sym, ap, ◌∙◌, zero, suc}
+use Rattle.std.proofs.Common.{◌≡◌, ℕ, Bool, true, false, List, [], ◌∷◌, ◌++◌, length, Option, Some, None, slice_get, refl, subst, sym, ap}
+use Rattle.std.proofs.Common.{◌∙◌, zero, suc}
 use Rattle.vm_memory.specs.Memory.{Memory}
-use Rattle.fs_chain.specs.Holds.{IsPopOf}
+use Rattle.fs_chain.specs.Holds.{IsPopOf, HoldsChain, IsRepliedWith, HoldsPop, IsHeldIn, IsOutAs, IsQueue, Machine, Pop, live_of}
+use Rattle.fs_chain.specs.Holds.{queue_with, IsUnanswered}
 use Rattle.fs_chain.specs.Queues.{SameEventIndex}
 use Rattle.fs_chain.proofs.HoldsQueues.{same_index}
 use Rattle.fs_queue.specs.Chain.{Descriptor}
@@ -15,21 +15,13 @@ use Rattle.virtiofsd_fuse.specs.Serving.{Setting}
 use Rattle.plain_machine.specs.Step.{Calls, calls_alone, served_exchange}
 use Rattle.server_phases.specs.declared.session.Session.{Session}
 use Rattle.live_machine.specs.Several.{returning}
-use Rattle.live_machine.specs.Live.{Abandoned, Asked, Fetched, InFlightChain, LoadsAreMapped}
-use Rattle.live_machine.specs.Live.{LiveEvent, Own}
-use Rattle.live_machine.specs.Live.{Phase, PoppedFaulty}
-use Rattle.live_machine.specs.Live.{asked_chain, pop_refusal}
-use Rattle.live_machine.specs.Live.{room_of, serving}
+use Rattle.live_machine.specs.Live.{Abandoned, Asked, Fetched, InFlightChain, LoadsAreMapped, LiveEvent, Own, Phase, PoppedFaulty}
+use Rattle.live_machine.specs.Live.{asked_chain, pop_refusal, room_of, serving}
 use Rattle.fuse_values.specs.declared.call.FileCall as made_call
 use Rattle.fs_chain.specs.Decoding.{KeepsCall, KeepsReply}
 use Rattle.fs_driven.specs.Desks.{Begun, Desk, FitsRun, IsReady, MayPop, own, with_pop}
-use Rattle.fs_driven.specs.Reported.{DrivesOne, Reports, Unseen, exactly}
-use Rattle.fs_driven.specs.Reported.{transition}
+use Rattle.fs_driven.specs.Reported.{DrivesOne, Reports, Unseen, exactly, transition}
 use Rattle.fs_driven.specs.Preserved.{IsSameHeld, KeepsMemory}
-use Rattle.fs_chain.specs.Holds.{HoldsChain, IsRepliedWith}
-use Rattle.fs_chain.specs.Holds.{HoldsPop, IsHeldIn, IsOutAs, IsQueue, IsUnanswered}
-use Rattle.fs_chain.specs.Holds.{Machine, Pop}
-use Rattle.fs_chain.specs.Holds.{live_of, queue_with}
 use Rattle.fs_chain.specs.Loads.{IsSame}
 use Rattle.fs_chain.specs.Orders.{is_out}
 use Rattle.fs_chain.specs.Rings.{ring_of}
@@ -143,13 +135,11 @@ stays s i page_size k q ws os pops push old new T all there same reports = by_ou
 
     by_out : (b : Bool) → is_out old.state ≡ b → LeadsAt s i page_size k pops q (with_handle ws k new) T
     by_out true out =
-        let own_one = all.outs old there out in
-        let c = own_one.0 in
-        let has = has_own s i page_size q ws os k old c pops push all there own_one.1 in
-        let mine = all.mine old c there own_one.1 in
+        let has = has_own s i page_size q ws os k old pops push all there (all.outs old there out) in
+        let c = has.c in
         let holds = holds_same s.page_size c old new same has.holds in
         let ready : IsReady page_size k q push c new.state =
-        subst (λ (st : state.ChainState). IsReady page_size k q push c st) (sym same.0) mine.1 in (
+        subst (λ (st : state.ChainState). IsReady page_size k q push c st) (sym same.0) has.mine.1 in (
           [],
           s,
           has.ob ++ own k c ∷ has.oh,
@@ -157,7 +147,7 @@ stays s i page_size k q ws os pops push old new T all there same reports = by_ou
           push,
           refl,
           keeps s s i page_size q q ws has.ob has.oh k old new c c (pops k) pops push push has.driven there
-              moves (λ n counts. counts) has.chains holds (mine.0, ready),
+              moves (λ n counts. counts) has.chains holds (has.mine.0, ready),
           reports (has.ob ++ own k c ∷ has.oh) (with_pop pops k (pops k)) (with_pop_same pops k (pops k)),
         )
     by_out false free = (
@@ -292,12 +282,8 @@ length_exactly zero bytes = refl
 length_exactly (suc n) [] = ap suc (length_exactly n [])
 length_exactly (suc n) (b ∷ bytes) = ap suc (length_exactly n bytes)
 
-abbrev IsNone : {A : Type 0} → Option A → Type 0
-IsNone None = Unit {0}
-IsNone (Some b) = ⊥
-
 pub no_error : {A : Type 0} (x : A) → Some x ≡ None → ⊥
-no_error {A} x e = subst (λ (o : Option A). IsNone o) (sym e) tt
+no_error x e = cc
 
 -- a pop that asks for more, or got a part of a load
 pub still : (s : Machine) (i : Spot) (page_size k : ℕ) (q q' : QueueState) (ws : List ChainHandle) (os : List Owned)

@@ -1,34 +1,24 @@
 -- A decoding drives the run.
-use Rattle.std.proofs.Common.{◌≡◌, ℕ, Bool, true, false, List, [], ◌∷◌, ◌++◌, length, Option, Some, None}
-use Rattle.std.proofs.Common.{slice_get}
-use Rattle.std.proofs.Common.{refl, subst, sym, ap, ◌∙◌, ◌≤◌, ◌-◌, arith, eqb-true, ◌==◌, take, length-append}
+use Rattle.std.proofs.Common.{◌≡◌, ℕ, Bool, true, false, List, [], ◌∷◌, ◌++◌, length, Option, Some, None, slice_get, refl, subst, sym, ap}
+use Rattle.std.proofs.Common.{◌∙◌, ◌≤◌, ◌-◌, arith, eqb-true, ◌==◌, take, length-append}
 use Rattle.std.proofs.lemmas.Bool.{ltb-false}
 use Rattle.std.specs.Borrow.{Bor}
-use Rattle.std.specs.Prelude.{drop, Result, Ok, Err, IfErr, IfOk, OnOk, OnErr, if◌then◌else◌, nat_lt}
+use Rattle.std.specs.Prelude.{drop, Result, Ok, Err, IfErr, IfOk, OnOk, OnErr, if◌then◌else◌, nat_lt, ◌+◌}
 use Rattle.fs_chain.specs.declared.error.ChainError.{ChainError}
 use Rattle.fs_chain.specs.declared.error.ChainError.TheVariants.{BadArgument, WrongOrder}
 use Rattle.fs_chain.specs.Walks.{IsAllBut}
 use Rattle.server_phases.specs.Asking.{IsRequestFront}
-use Rattle.std.specs.Prelude.{◌+◌}
 use Rattle.fs_queue.specs.Taking.{readable, total_len}
 use Rattle.virtiofsd_fuse.specs.Grammar.{Meaning, meaning}
 use Rattle.virtiofsd_fuse.specs.Serving.{Setting, setting}
 use Rattle.server_phases.specs.declared.session.Session.{Session}
-use Rattle.live_machine.specs.Live.{DecodesRequest, Fetched, InFlightChain}
-use Rattle.live_machine.specs.Live.{LiveEvent, LiveRun}
-use Rattle.live_machine.specs.Live.{Phase}
-use Rattle.live_machine.specs.Live.{SetsOptions}
-use Rattle.live_machine.specs.Live.{after_decoding}
-use Rattle.live_machine.specs.Live.{asked_chain}
-use Rattle.live_machine.specs.Live.{Happens, room_of_phase, serving}
+use Rattle.live_machine.specs.Live.{DecodesRequest, Fetched, InFlightChain, LiveEvent, LiveRun, Phase, SetsOptions, after_decoding}
+use Rattle.live_machine.specs.Live.{asked_chain, Happens, room_of_phase, serving}
 use Rattle.fs_chain.specs.Decoding.{IfUndecoded, ReportsMeaning, wanted_after, wanted_by}
 use Rattle.fs_driven.specs.Desks.{Begun, Desk, FitsRun, In, IsReady, own, with_pop}
-use Rattle.fs_driven.specs.Reported.{DrivesOne, Reports, Unseen, asked_len_of, exactly}
-use Rattle.fs_driven.specs.Reported.{request_of, setting_of, transition}
+use Rattle.fs_driven.specs.Reported.{DrivesOne, Reports, Unseen, asked_len_of, exactly, request_of, setting_of, transition}
 use Rattle.fs_driven.specs.Preserved.{KeepsMemory}
-use Rattle.fs_chain.specs.Holds.{Decodes, DecodingIs, HoldsChain, HoldsUnanswered}
-use Rattle.fs_chain.specs.Holds.{Machine, Pop}
-use Rattle.fs_chain.specs.Holds.{any_files, calls_decoded}
+use Rattle.fs_chain.specs.Holds.{Decodes, DecodingIs, HoldsChain, Machine, Pop, any_files, calls_decoded, HoldsUnanswered}
 use Rattle.fs_chain.specs.Orders.{ask_error, is_out}
 use Rattle.fs_chain.specs.Together.{Owned, with_handle}
 use Rattle.fs_chain.specs.declared.chain_handle.ChainHandle.{ChainHandle}
@@ -45,10 +35,8 @@ use Rattle.fs_driven.proofs.Among.{here}
 use Rattle.fs_driven.proofs.Handles.{Moves, has_own, held_out, keeps, others_same}
 use Rattle.fs_driven.proofs.Spots.{DrivenAt, DrivesAt, LeadsAt, Spot, desk_after, desk_before, drives_one}
 use Rattle.fs_chain.proofs.Together.{chains_of}
-use Rattle.fs_driven.proofs.Calls.{taken_out}
-use Rattle.fs_driven.proofs.Calls.{HasNoPush, call_waits, done_ready, fetched_ready}
-use Rattle.fs_driven.proofs.Calls.{fits_out, length_exactly, no_error, refuses, reply_no_push}
-use Rattle.fs_driven.proofs.Calls.{same_held, stays_put}
+use Rattle.fs_driven.proofs.Calls.{taken_out, HasNoPush, call_waits, done_ready, fetched_ready, fits_out, length_exactly, no_error, refuses}
+use Rattle.fs_driven.proofs.Calls.{reply_no_push, same_held, stays_put}
 
 -- ---- the events of a decoding
 
@@ -267,9 +255,8 @@ decode_taken : (old new : ChainHandle) (q : QueueState) (session : Session) (fro
 unfolding Decodes
 decode_taken old new q session front reported out is fits means wanted kept decodes ws k there u s i os pops push
     all =
-    let own_one = all.outs old there (ap is_out is) in
-    let c = own_one.0 in
-    let has = has_own s i session.page_size q ws os k old c pops push all there own_one.1 in
+    let has = has_own s i session.page_size q ws os k old pops push all there (all.outs old there (ap is_out is)) in
+    let c = has.c in
     let o = taken_out s.page_size c c.phase old.state old.session out is has.holds in
     let len_is : asked_len_of old.state ≡ out.request_len = ap asked_len_of is in
     let n : ℕ = asked_len_of old.state in
@@ -292,9 +279,9 @@ decode_taken old new q session front reported out is fits means wanted kept deco
     (meaning options request out.room_len) (drop 80 request) out
     (λ es d. Reports (transition i.number session.page_size k (desk_before s i ws os pops) d old new q q)
     (does.Decode session front) u (gives.Decoded (Ok reported)) es)
-    has.driven there (all.mine old c there own_one.1).0 o.0 (kept.0.0.0, kept.0.0.1) (all.fits old there) d has.chains so
+    has.driven there has.mine.0 o.0 (kept.0.0.0, kept.0.0.1) (all.fits old there) d has.chains so
     (decode_reports s i session.page_size k q ws (with_handle ws k new) os pops push old new c session front u
-    reported own_one.1 wanted_if so_if kept)
+    reported has.is_in wanted_if so_if kept)
 
 decode_at : (old new : ChainHandle) (q : QueueState) (session : Session) (front : Bor (List ℕ))
     (reported : Decoded) (st : state.ChainState) → old.state ≡ st → DecodesAt st (length front.now)
@@ -336,11 +323,7 @@ decode_result old new q session front (Ok reported) err ok reports wanted same s
 decode_result old new q session front (Err e) err ok reports wanted same stay kept step page_size page =
     refuses page_size old new q (does.Decode session front) (gives.Decoded (Err e))
     (stay.0, stay.1, same.0.0, same.0.1, items_same old new same.1)
-    (λ i k d d' u pop. (
-      refl,
-      ((same.0, stay.0, items_same old new same.1, part_same old new same.2, stay.1), refl, pop),
-      err,
-    ))
+    (λ i k d d' u pop. (refl, ((same.0, stay.0, items_same old new same.1, part_same old new same.2, stay.1), refl, pop), err))
 
 pub other_session : (page_size : ℕ) (old : ChainHandle) (q : QueueState) (session : Session)
     (front : Bor (List ℕ)) → (session.page_size ≡ page_size → ⊥)

@@ -1,15 +1,13 @@
 -- The end of a chain by a handle drives the run: a push in two calls, and a drop.
-use Rattle.std.proofs.Common.{◌≡◌, ◌<◌, ◌^◌, ℕ, Bool, true, false, List, [], ◌∷◌, ◌++◌, length, Option, Some, None}
-use Rattle.std.proofs.Common.{refl, subst, sym, ap, ◌∙◌}
-use Rattle.std.specs.Prelude.{if◌then◌else◌, not, nat_lt, take, drop, Result, Ok, Err, IfErr, IfOk, OnOk, OnErr}
+use Rattle.std.proofs.Common.{◌≡◌, ◌<◌, ◌^◌, ℕ, Bool, true, false, List, [], ◌∷◌, ◌++◌, length, Option, Some, None, if◌then◌else◌, not}
+use Rattle.std.proofs.Common.{nat_lt, take, drop, Result, Ok, Err, IfErr, IfOk, OnOk, OnErr, refl, subst, sym, ap, ◌∙◌}
 use Rattle.fs_chain.proofs.HoldsQueues.{same_index}
 use Rattle.fs_chain.specs.declared.error.ChainError.{ChainError}
 use Rattle.fs_chain.specs.declared.error.ChainError.TheVariants.{OtherQueue, ShortBuffer, WrongOrder}
 use Rattle.fs_chain.specs.declared.error.ChainError.TheVariants as error
 use Rattle.fs_chain.specs.Queues.{gave, gave_up, is_in_flight_of}
 use Rattle.fs_chain.specs.Serials.{freed}
-use Rattle.fs_chain.specs.Orders.{end_error, front_len, front_of, give_up_error, has_ring, push_error}
-use Rattle.fs_chain.specs.Orders.{return_error}
+use Rattle.fs_chain.specs.Orders.{end_error, front_len, front_of, give_up_error, has_ring, push_error, return_error, is_out}
 use Rattle.fs_chain.specs.Pushes.{IfHasReply, PushesBy, put_front}
 use Rattle.fs_queue.specs.Returning.{Store, stores_after_reply}
 use Rattle.fs_queue.specs.ReturningView.{stores_of}
@@ -18,26 +16,16 @@ use Rattle.plain_machine.specs.Step.{Exchange}
 use Rattle.live_machine.specs.Several.{returning}
 use Rattle.live_machine.specs.Several as several
 use Rattle.live_machine.proofs.Queues.{there_other}
-use Rattle.live_machine.specs.Live.{InFlightChain}
-use Rattle.live_machine.specs.Live.{PushedWith, PushesChain}
-use Rattle.live_machine.specs.Live.{after_push}
-use Rattle.live_machine.specs.Live.{GivesUpChain, after_giving_up}
-use Rattle.fs_driven.specs.Desks.{Begun, FitsRun, IsReady, IsUnderWay, MayPop, own}
-use Rattle.fs_driven.specs.Desks.{no_pop, with_pop}
-use Rattle.fs_driven.specs.Reported.{DrivesOne, GiveUpReports, Reports, Unseen, asked_len_of, exactly, replied_to}
-use Rattle.fs_driven.specs.Reported.{transition}
+use Rattle.live_machine.specs.Live.{InFlightChain, PushedWith, PushesChain, after_push, GivesUpChain, after_giving_up, Abandoned, Asked}
+use Rattle.live_machine.specs.Live.{Fetched, IsUnreplied, Own, Phase, RepliesOwnBytes, after_own, own_exchange}
+use Rattle.fs_driven.specs.Desks.{Begun, FitsRun, IsReady, IsUnderWay, MayPop, own, no_pop, with_pop}
+use Rattle.fs_driven.specs.Reported.{DrivesOne, GiveUpReports, Reports, Unseen, asked_len_of, exactly, replied_to, transition}
 use Rattle.fs_driven.specs.Preserved.{KeepsMemory}
-use Rattle.live_machine.specs.Live.{Abandoned, Asked, Fetched, IsUnreplied, Own, Phase}
-use Rattle.live_machine.specs.Live.{RepliesOwnBytes, after_own, own_exchange}
 use Rattle.server_phases.specs.declared.session.Session.{Session}
 use Rattle.fs_chain.specs.Held.{IsWithoutReply}
 use Rattle.fs_chain.specs.OwnReplies.{IfUnanswered, own_error, own_reply}
 use Rattle.fs_chain.proofs.Held.{held_is_unreplied}
-use Rattle.fs_chain.specs.Holds.{EndsPush, GivesUp, IsHeldIn, RepliesOwn}
-use Rattle.fs_chain.specs.Holds.{IsQueue, Pop}
-use Rattle.fs_chain.specs.Holds.{Machine, Pushes}
-use Rattle.fs_chain.specs.Holds.{live_of}
-use Rattle.fs_chain.specs.Orders.{is_out}
+use Rattle.fs_chain.specs.Holds.{EndsPush, GivesUp, IsHeldIn, RepliesOwn, IsQueue, Pop, Machine, Pushes, live_of}
 use Rattle.fs_chain.specs.Together.{with_handle}
 use Rattle.fs_chain.specs.declared.chain_handle.ChainHandle.{ChainHandle}
 use Rattle.fs_driven.specs.declared.commands.Command.TheVariants as does
@@ -117,11 +105,9 @@ push_drives : (page_size : ℕ) (old new : ChainHandle) (q q' : QueueState) (fro
 unfolding Pushes
 push_drives page_size old new q q' front stores out preserved is idle ok so made pushing pushes ws k there u s i os
     pops push all =
-    let own_one = all.outs old there (ap is_out is) in
-    let c = own_one.0 in
-    let has = has_own s i page_size q ws os k old c pops push all there own_one.1 in
-    let mine = all.mine old c there own_one.1 in
-    let x = ready_reply page_size k q push c old.state out preserved is mine.1 in
+    let has = has_own s i page_size q ws os k old pops push all there (all.outs old there (ap is_out is)) in
+    let c = has.c in
+    let x = ready_reply page_size k q push c old.state out preserved is has.mine.1 in
     let proceeds : PushedWith s.page_size c c.phase x.0 =
     subst (λ (n : ℕ). PushedWith n c c.phase x.0) (sym all.page) x.1 in
     let p = pushes s.page_size c x.0 has.holds proceeds in
@@ -155,7 +141,7 @@ push_drives page_size old new q q' front stores out preserved is idle ok so made
       refl,
       keeps s s i page_size q q' ws has.ob has.oh k old new c c (pops k) pops push (Some b) has.driven there
           moves (same_count (live_of q) (live_of q') (ap live_of pushing)) has.chains p.0 (
-            mine.0,
+            has.mine.0,
             subst (λ (st : state.ChainState). IsReady page_size k q' (Some b) c st) (sym state_is)
                 (x.0, x.1, under),
           ),
@@ -193,15 +179,13 @@ end_drives : (page_size : ℕ) (old new : ChainHandle) (q q' : QueueState) (seen
     → DrivesAt page_size old new q q' (does.Pushed seen) (gives.Ended (Ok notice))
 unfolding EndsPush
 end_drives page_size old new q q' seen notice out is free gave small ends ws k there u s i os pops push all =
-    let own_one = all.outs old there (ap is_out is) in
-    let c = own_one.0 in
-    let has = has_own s i page_size q ws os k old c pops push all there own_one.1 in
-    let mine = all.mine old c there own_one.1 in
-    let x = ready_pushing page_size k q push c old.state out is mine.1 in
+    let has = has_own s i page_size q ws os k old pops push all there (all.outs old there (ap is_out is)) in
+    let c = has.c in
+    let x = ready_pushing page_size k q push c old.state out is has.mine.1 in
     let proceeds : PushedWith s.page_size c c.phase x.0 =
     subst (λ (n : ℕ). PushedWith n c c.phase x.0) (sym all.page) x.1 in
     let under = under_way k q c x.0 push x.2 in
-    let queue : IsQueue s c.queue q = subst (λ (n : ℕ). IsQueue s n q) (sym mine.0) all.queue in
+    let queue : IsQueue s c.queue q = subst (λ (n : ℕ). IsQueue s n q) (sym has.mine.0) all.queue in
     let e = ends s (chains_of has.ob) (chains_of has.oh) c x.0 u.last has.chains queue has.holds proceeds in
     let after : Machine = after_push s (chains_of has.ob) (chains_of has.oh) c (live_of q) in
     let state_is : new.state ≡ at.Free = ap (λ (w : ChainHandle). w.state) free in
@@ -210,9 +194,9 @@ end_drives page_size old new q q' seen notice out is free gave small ends ws k t
       page = refl;
       limit = refl;
       places = refl;
-      queue = subst (λ (n : ℕ). IsQueue after n q') mine.0 e.1;
+      queue = subst (λ (n : ℕ). IsQueue after n q') has.mine.0 e.1;
       apart = λ j other.
-          there_other s.queues c.queue j (λ _. several.gave (live_of q)) (λ is. other (sym mine.0 ∙ is));
+          there_other s.queues c.queue j (λ _. several.gave (live_of q)) (λ is. other (sym has.mine.0 ∙ is));
       event = same_index q' _ gave;
       fits = (
         was.0 ∙ ap places_in (sym (ap (λ (w : ChainHandle). w.regions) free)),
@@ -235,7 +219,7 @@ end_drives page_size old new q q' seen notice out is free gave small ends ws k t
         c,
         x.0,
         under.begun,
-        own_one.1,
+        has.is_in,
         all.under ∙ under.is,
         under.mine,
         under.reply,
@@ -302,11 +286,9 @@ give_up_drives page_size old new q q' clear free left gives_up ws k there u s i 
           ),
         )
     by_out true some =
-        let own_one = all.outs old there some in
-        let c = own_one.0 in
-        let has = has_own s i page_size q ws os k old c pops push all there own_one.1 in
-        let mine = all.mine old c there own_one.1 in
-        let queue : IsQueue s c.queue q = subst (λ (n : ℕ). IsQueue s n q) (sym mine.0) all.queue in
+        let has = has_own s i page_size q ws os k old pops push all there (all.outs old there some) in
+        let c = has.c in
+        let queue : IsQueue s c.queue q = subst (λ (n : ℕ). IsQueue s n q) (sym has.mine.0) all.queue in
         let e = gives_up s (chains_of has.ob) (chains_of has.oh) c has.chains queue has.holds in
         let after : Machine = after_giving_up s (chains_of has.ob) (chains_of has.oh) c (live_of q) in
         let now : q' ≡ gave_up q = left ∙ left_by q (is_out old.state) true some in
@@ -314,9 +296,9 @@ give_up_drives page_size old new q q' clear free left gives_up ws k there u s i 
           page = refl;
           limit = refl;
           places = refl;
-          queue = subst (λ (n : ℕ). IsQueue after n q') mine.0 e.1;
+          queue = subst (λ (n : ℕ). IsQueue after n q') has.mine.0 e.1;
           apart = λ j other.
-              there_other s.queues c.queue j (λ _. several.gave_up (live_of q)) (λ is. other (sym mine.0 ∙ is));
+              there_other s.queues c.queue j (λ _. several.gave_up (live_of q)) (λ is. other (sym has.mine.0 ∙ is));
           event = same_index q' _ now;
           fits = fits_freed s q (pops k) old new free (all.fits old there);
           others = others_same page_size k q q' push
@@ -337,7 +319,7 @@ give_up_drives page_size old new q q' clear free left gives_up ws k there u s i 
             left,
             subst (λ (b : Bool). GiveUpReports (transition i.number page_size k (desk_before s i ws os pops)
                 (desk_after after i (with_handle ws k new) q' (has.ob ++ has.oh) (with_pop pops k no_pop) push) old new q q') b
-                (GivesUpChain c ∷ [])) (sym some) (c, own_one.1, refl),
+                (GivesUpChain c ∷ [])) (sym some) (c, has.is_in, refl),
           ),
         )
 
@@ -383,10 +365,8 @@ reply_drives : (page_size : ℕ) (old new : ChainHandle) (q : QueueState) (seria
     → DrivesAt page_size old new q q (does.Reply serial len) (gives.Replied (Ok tt))
 unfolding RepliesOwn
 reply_drives page_size old new q serial len out without clear kept made replies ws k there u s i os pops push all =
-    let own_one = all.outs old there (without_out old.state without) in
-    let c = own_one.0 in
-    let has = has_own s i page_size q ws os k old c pops push all there own_one.1 in
-    let mine = all.mine old c there own_one.1 in
+    let has = has_own s i page_size q ws os k old pops push all there (all.outs old there (without_out old.state without)) in
+    let c = has.c in
     let request : List ℕ = replied_to c.phase u (asked_len_of old.state) in
     let reply : List ℕ = exactly len u.bytes in
     let r = replies s (chains_of has.ob) (chains_of has.oh) c request reply s.options has.chains
@@ -418,8 +398,8 @@ reply_drives page_size old new q serial len out without clear kept made replies 
       (after, r.0, refl),
       keeps s after i page_size q q ws has.ob has.oh k old new c c' (pops k) pops push push has.driven there
           moves (λ n counts. counts) refl r.1
-          (mine.0, own_ready page_size k q push c request reply new.state out (own_reply len) state_is),
-      (clear, kept, refl, c, own_one.1, refl),
+          (has.mine.0, own_ready page_size k q push c request reply new.state out (own_reply len) state_is),
+      (clear, kept, refl, c, has.is_in, refl),
     )
 
 -- ---- by what each call ensures

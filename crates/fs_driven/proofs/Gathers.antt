@@ -1,6 +1,5 @@
 -- A listing's entries and its end, as one command of a driver.
-use Rattle.std.proofs.Common.{inl, inr, ◌≡◌, ◌⊎◌, ℕ, true, false, List, [], ◌∷◌}
-use Rattle.std.proofs.Common.{Option, Some, None, refl, subst, sym, ap, ◌∙◌, slice_get}
+use Rattle.std.proofs.Common.{inl, inr, ◌≡◌, ◌⊎◌, ℕ, true, false, List, [], ◌∷◌, Option, Some, None, refl, subst, sym, ap, ◌∙◌, slice_get}
 use Rattle.std.specs.Prelude.{drop, take, Result, Ok, Err}
 use Rattle.std.specs.Borrow.{Bor}
 use Rattle.server_phases.specs.Gathering.{Brought}
@@ -126,11 +125,9 @@ gathered_drives page_size old mid new q serial before list entries names failure
     let mid_was = ended_listing (errno_after reported failure) mid new serial len ends in
     let was = listing_is old.state
     (was_before old mid serial before list entries names n reported all_in.moved (ap is_listing mid_was.2)) in
-    let own_one = all.outs old there (ap is_out was.2) in
-    let c = own_one.0 in
-    let has = has_own s i page_size q ws os k old c pops push all there own_one.1 in
-    let mine = all.mine old c there own_one.1 in
-    let first = begun_listing s.page_size page_size k q push c old was.0 was.1 before was.2 mine.1 has.holds in
+    let has = has_own s i page_size q ws os k old pops push all there (all.outs old there (ap is_out was.2)) in
+    let c = has.c in
+    let first = begun_listing s.page_size page_size k q push c old was.0 was.1 before was.2 has.mine.1 has.holds in
     let left : List Brought = drop n (all_brought entries names) in
     let came = all_in.step s.page_size c [] first tt in
     let r = came_to_end s (chains_of has.ob) (chains_of has.oh) c (take n (all_brought entries names)) left reported failure
@@ -145,7 +142,7 @@ gathered_drives page_size old mid new q serial before list entries names failure
     (answers_of c h.request h.options [] calls)
     (λ es d. GatherReports (transition i.number page_size k (desk_before s i ws os pops) d old new q q) serial entries names failure
     n reported (Ok len) list es)
-    has.driven there mine.0 (stays.0.0, stays.0.1) r.listed.holds
+    has.driven there has.mine.0 (stays.0.0, stays.0.1) r.listed.holds
     (no_push new.state h.out r.listed.preserved r.listed.state) r.listed.none_pending
     r.run.2 refl refl refl refl r.run.3
     (λ after' os' pops'. (
@@ -160,7 +157,7 @@ gathered_drives page_size old mid new q serial before list entries names failure
       h.unique,
       h.asked,
       r.listed.preserved,
-      own_one.1,
+      has.is_in,
       h.phase,
       h.means,
       r.listed.state,

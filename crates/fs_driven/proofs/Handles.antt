@@ -1,12 +1,9 @@
 -- A driver of several handles: a call of one of them leaves the others theirs.
-use Rattle.std.proofs.Common.{inl, inr, ◌≡◌, ◌⊎◌, ◌≤◌, ◌^◌, ℕ, Bool, true, false, List, [], ◌∷◌, ◌++◌, Option}
-use Rattle.std.proofs.Common.{Some, None, slice_get}
-use Rattle.std.proofs.Common.{refl, subst, suc, sym, ap, ◌∙◌, eqb-true, ◌==◌, append-nil, append_assoc}
-use Rattle.std.specs.Prelude.{if◌then◌else◌, length}
+use Rattle.std.proofs.Common.{inl, inr, ◌≡◌, ◌⊎◌, ◌≤◌, ◌^◌, ℕ, Bool, true, false, List, [], ◌∷◌, ◌++◌, Option, Some, None, slice_get, refl}
+use Rattle.std.proofs.Common.{if◌then◌else◌, length, subst, suc, sym, ap, ◌∙◌, eqb-true, ◌==◌, append-nil, append_assoc}
 use Rattle.std.specs.List.{AllByRecursion}
 use Rattle.vm_memory.specs.Memory.{Memory}
-use Rattle.live_machine.specs.Live.{InFlightChain, Phase}
-use Rattle.live_machine.specs.Live.{LiveEvent, PoppedFaulty}
+use Rattle.live_machine.specs.Live.{InFlightChain, Phase, LiveEvent, PoppedFaulty}
 use Rattle.plain_machine.specs.Step.{Exchange}
 use Rattle.fs_chain.specs.Queues.{SameEventIndex}
 use Rattle.fs_queue.specs.Returning.{stores_after_reply}
@@ -24,8 +21,7 @@ use Rattle.fs_chain.specs.declared.chain_handle.ChainHandle.{ChainHandle}
 use Rattle.fs_chain.specs.declared.queue.QueueState.{QueueState}
 use Rattle.fs_chain.specs.declared.state.ChainState as state
 use Rattle.fs_chain.specs.declared.state.ChainState.TheVariants as at
-use Rattle.fs_chain.proofs.Together.{all_still, amid, chains_of, finds_own, joins_others, keeps_others}
-use Rattle.fs_chain.proofs.Together.{leaves_others}
+use Rattle.fs_chain.proofs.Together.{all_still, amid, chains_of, finds_own, joins_others, keeps_others, leaves_others}
 use Rattle.fs_driven.proofs.Among.{among, among_on, another, by_number, here, not_lost, others_apart, put, same_chain}
 use Rattle.fs_driven.proofs.Among.{same_number, split, the_new}
 use Rattle.fs_driven.proofs.Counts.{CountsLess, CountsMore, CountsSame, number_one, number_other, number_same}
@@ -328,12 +324,8 @@ keeps s after i page_size q q' ws ob oh k w new c c' p pops push push' all there
     still_lost d (inl e) = absurd (not_lost k d c' e)
     still_lost d (inr m) = put ob oh (own k c) (lost d) m
 
-abbrev IsYes : Bool → Type 0
-IsYes true = Unit {0}
-IsYes false = ⊥
-
 pub not_free : (b : Bool) → b ≡ true → b ≡ false → ⊥
-not_free b t f = subst (λ (k : Bool). IsYes k) (sym t ∙ f) tt
+not_free b t f = cc
 
 -- handle k has none anymore
 pub leaves : (s after : Machine) (i : Spot) (page_size : ℕ) (q q' : QueueState) (ws : List ChainHandle)
@@ -371,26 +363,14 @@ leaves s after i page_size q q' ws ob oh k w new c p pops push push' all there m
 abbrev pub Seen : Type 0
 Seen = Called × Unseen
 
-abbrev pub IsSome : {A : Type 0} → List A → Type 0
-IsSome [] = ⊥
-IsSome (x ∷ xs) = Unit {0}
-
-abbrev rest : {A : Type 0} → List A → List A
-rest [] = []
-rest (x ∷ xs) = xs
-
-abbrev first_of : {A : Type 0} → A → List A → A
-first_of x [] = x
-first_of x (y ∷ ys) = y
-
 pub none_some : {A : Type 0} (x : A) (xs : List A) → [] ≡ x ∷ xs → ⊥
-none_some {A} x xs e = subst (λ (l : List A). IsSome l) (sym e) tt
+none_some x xs e = cc
 
 pub same_first : {A : Type 0} (x y : A) (xs ys : List A) → x ∷ xs ≡ y ∷ ys → x ≡ y
-same_first {A} x y xs ys e = ap (λ (l : List A). first_of x l) e
+same_first x y xs ys e = cc
 
 pub same_rest : {A : Type 0} (x y : A) (xs ys : List A) → x ∷ xs ≡ y ∷ ys → xs ≡ ys
-same_rest {A} x y xs ys e = ap (λ (l : List A). rest l) e
+same_rest x y xs ys e = cc
 
 -- calls are those of both parts
 record Parted (zs : List Seen) (calls more : List Called) : Type 0 where
@@ -468,8 +448,10 @@ held_out page_size c _ _ session held = absurd held
 
 -- what a handle has is its chain of the run
 pub record Has (s : Machine) (i : Spot) (page_size : ℕ) (q : QueueState) (ws : List ChainHandle)
-    (os : List Owned) (k : ℕ) (w : ChainHandle) (c : InFlightChain) (pops : ℕ → Pop) (push : Option Begun) :
-    Type 0 where
+    (os : List Owned) (k : ℕ) (w : ChainHandle) (pops : ℕ → Pop) (push : Option Begun) : Type 0 where
+  pub c : InFlightChain
+  pub is_in : In (own k c) os
+  pub mine : (c.queue ≡ i.number) × IsReady page_size k q push c w.state
   pub ob : List Owned
   pub oh : List Owned
   pub driven : DrivenAt s i page_size k q ws (ob ++ own k c ∷ oh) pops push
@@ -477,15 +459,24 @@ pub record Has (s : Machine) (i : Spot) (page_size : ℕ) (q : QueueState) (ws :
   pub holds : HoldsChain s.page_size c w
 
 pub has_own : (s : Machine) (i : Spot) (page_size : ℕ) (q : QueueState) (ws : List ChainHandle)
-    (os : List Owned) (k : ℕ) (w : ChainHandle) (c : InFlightChain) (pops : ℕ → Pop) (push : Option Begun)
-    → DrivenAt s i page_size k q ws os pops push → slice_get ws k ≡ Some w → In (own k c) os →
-    Has s i page_size q ws os k w c pops push
-has_own s i page_size q ws os k w c pops push all there is =
+    (os : List Owned) (k : ℕ) (w : ChainHandle) (pops : ℕ → Pop) (push : Option Begun)
+    → DrivenAt s i page_size k q ws os pops push → slice_get ws k ≡ Some w → (c : InFlightChain) × In (own k c) os →
+    Has s i page_size q ws os k w pops push
+has_own s i page_size q ws os k w pops push all there (c, is) =
     let r = split os (own k c) is in
     let driven : DrivenAt s i page_size k q ws (r.0 ++ own k c ∷ r.1) pops push =
     subst (λ (l : List Owned). DrivenAt s i page_size k q ws l pops push) r.2 all in
     let finds = finds_own s ws r.0 r.1 k w c driven.all there in
-    record { ob = r.0; oh = r.1; driven = driven; chains = finds.0; holds = finds.1 }
+    record {
+      c = c;
+      is_in = is;
+      mine = all.mine w c there is;
+      ob = r.0;
+      oh = r.1;
+      driven = driven;
+      chains = finds.0;
+      holds = finds.1;
+    }
 
 none_of : (k : ℕ) (os : List Owned) → ((c : InFlightChain) → In (own k c) os → ⊥) → HasNone k os
 none_of k [] none = tt
@@ -506,8 +497,8 @@ has_none : (s : Machine) (i : Spot) (page_size : ℕ) (q : QueueState) (ws : Lis
     (c : InFlightChain) →
     In (own k c) os → ⊥
 has_none s i page_size q ws os k w pops push all there free c is =
-    let has = has_own s i page_size q ws os k w c pops push all there is in
-    not_free (is_out w.state) (held_out s.page_size c c.phase w.state w.session has.holds) free
+    let has = has_own s i page_size q ws os k w pops push all there (c, is) in
+    not_free (is_out w.state) (held_out s.page_size has.c has.c.phase w.state w.session has.holds) free
 
 -- handle k has no chain, before and after
 pub idles : (s after : Machine) (i : Spot) (page_size : ℕ) (q q' : QueueState) (ws : List ChainHandle)

@@ -1,7 +1,6 @@
 -- A listing's entries and its end drive the run: the reading of its directory is answered, and each look-up.
-use Rattle.std.proofs.Common.{◌≡◌, ◌≤◌, ◌<◌, ◌^◌, ℕ, Bool, true, false, List, [], ◌∷◌, ◌++◌}
-use Rattle.std.proofs.Common.{Option, Some, None, refl, sym, ap, ◌∙◌, append-nil, append_assoc, lt-ltb}
-use Rattle.std.specs.Prelude.{IsTrue, Result, Ok, Err, if◌then◌else◌}
+use Rattle.std.proofs.Common.{◌≡◌, ◌≤◌, ◌<◌, ◌^◌, ℕ, Bool, true, false, List, [], ◌∷◌, ◌++◌, IsTrue, Result, Ok, Err, if◌then◌else◌, Option}
+use Rattle.std.proofs.Common.{Some, None, refl, sym, ap, ◌∙◌, append-nil, append_assoc, lt-ltb}
 use Rattle.std.specs.List.{AllByRecursion}
 use Rattle.fuse_fs.specs.Calls.{Done, Entries, Failed, FileAnswer, FileCall, Forget, HasEntry, Listed, Lookup, Readdir, suits}
 use Rattle.fuse_fs.specs.declared.answers.Context.{Context}
@@ -12,8 +11,7 @@ use Rattle.virtiofsd_fuse.specs.Listings.{readdir_call}
 use Rattle.plain_machine.specs.Step.{Calls, EachSuits}
 use Rattle.live_machine.specs.Live.{Happens, InFlightChain, LiveRun, Phase, ReceivesAnswer, after_answer, asked_chain}
 use Rattle.fs_chain.specs.Holds.{Machine, any_files}
-use Rattle.fs_chain.specs.HoldsListings.{EndsListing, FailsListing, HasListed, HoldsListing, IsLeftOut, MayFail}
-use Rattle.fs_chain.specs.HoldsListings.{calls_left_out}
+use Rattle.fs_chain.specs.HoldsListings.{EndsListing, FailsListing, HasListed, HoldsListing, IsLeftOut, MayFail, calls_left_out}
 use Rattle.fs_chain.specs.ListingCalls.{Ending, EndsThere, FailsAt, FullAt, Unreadable, all_looked_up}
 use Rattle.fs_chain.specs.ListingCalls.{calls_so_far, listing_calls, looked_up, node_back, unreadable_calls}
 use Rattle.fs_chain.specs.declared.chain_handle.ChainHandle.{ChainHandle}
@@ -23,7 +21,7 @@ use Rattle.fs_chain.specs.declared.listing.Added.TheVariants as added
 use Rattle.fs_driven.specs.Adding.{CameTo, EndsSo, HasNumber}
 use Rattle.fs_driven.specs.Entries.{answers_of, ending_of, errno_after}
 use Rattle.fs_chain.proofs.HoldsListed.{leaves_out, looks_up, reads_directory}
-use Rattle.fs_driven.proofs.Listings.{errno_suits}
+use Rattle.fs_driven.proofs.Listings.{at_calls, errno_suits}
 
 -- ---- each call of a listing is answered
 
@@ -57,12 +55,8 @@ answered_run : (s : Machine) (before behind : List InFlightChain) (c : InFlightC
     → (chains : List InFlightChain) (now : ℕ) (earlier later : Calls) → all ≡ earlier ++ later
     → chains ≡ before ++ asked_chain c request options earlier ∷ behind → EachSuits later
     → Answered s before behind c request options chains now earlier later
-answered_run s before behind c request options all each chains now earlier [] are out suit = (
-  chains,
-  now,
-  refl,
-  out ∙ ap (λ (l : Calls). before ++ asked_chain c request options l ∷ behind) (sym (append-nil earlier)),
-)
+answered_run s before behind c request options all each chains now earlier [] are out suit =
+    (chains, now, refl, out ∙ ap (λ (l : Calls). before ++ asked_chain c request options l ∷ behind) (sym (append-nil earlier)))
 answered_run s before behind c request options all each chains now earlier (step ∷ later) are out suit =
     let c' : InFlightChain = asked_chain c request options earlier in
     let next : Machine = after_answer (moved s chains now) before behind c' request options (earlier ++ step ∷ []) tt in
@@ -100,33 +94,6 @@ back_suits true who node = (refl, tt)
 back_suits false who node = tt
 
 -- ---- a listing of a run
-
--- the chain of a listing, as its calls so far leave it
-at_calls : (page_size : ℕ) (c : InFlightChain) (es : List Brought) (list : List ℕ) (w : ChainHandle)
-    (h : HoldsListing page_size c es [] list w) (calls : Calls)
-    → HoldsListing page_size (asked_chain c h.request h.options calls) es calls list w
-at_calls page_size c es list w h calls = record {
-  out = h.out;
-  listing = h.listing;
-  state = h.state;
-  is_out = record {
-    taken = h.is_out.taken;
-    ring = h.is_out.ring;
-    head = h.is_out.head;
-    request_len = h.is_out.request_len;
-    room_len = h.is_out.room_len;
-    small = h.is_out.small;
-  };
-  request = h.request;
-  options = h.options;
-  session = h.session;
-  unique = h.unique;
-  asked = h.asked;
-  means = h.means;
-  is_for = h.is_for;
-  holds = h.holds;
-  phase = refl;
-}
 
 -- its chain before any call
 asked_first : (page_size : ℕ) (c : InFlightChain) (es : List Brought) (list : List ℕ) (w : ChainHandle)

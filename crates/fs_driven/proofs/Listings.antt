@@ -1,6 +1,5 @@
 -- The end of a listing without entries drives the run: the reading of its directory is answered.
-use Rattle.std.proofs.Common.{◌≡◌, ◌≤◌, ℕ, Bool, true, false, List, [], ◌∷◌, Option, Some, arith}
-use Rattle.std.proofs.Common.{refl, subst, sym, ap, lt-ltb, slice_get}
+use Rattle.std.proofs.Common.{◌≡◌, ◌≤◌, ℕ, Bool, true, false, List, [], ◌∷◌, Option, Some, arith, refl, subst, sym, ap, lt-ltb, slice_get}
 use Rattle.std.specs.Prelude.{IsTrue, Result, Ok, Err, IfOk, OnOk, OnErr, nat_lt, ◌&&◌}
 use Rattle.fuse_fs.specs.Calls.{Entries, Failed, FileAnswer, FileCall, suits}
 use Rattle.plain_machine.specs.Step.{Calls}
@@ -25,6 +24,7 @@ use Rattle.fs_chain.specs.declared.state.ChainState.TheVariants as at
 use Rattle.fs_chain.specs.declared.state.InFlight.{InFlight}
 use Rattle.fs_driven.specs.declared.commands.Command.TheVariants as does
 use Rattle.fs_driven.specs.declared.commands.Returned.TheVariants as gives
+use Rattle.server_phases.specs.Gathering.{Brought}
 use Rattle.fs_driven.specs.Desks.{Begun, IsReady}
 use Rattle.fs_driven.specs.Reported.{DrivesOne, ReportsListing, transition}
 use Rattle.fs_chain.proofs.HoldsListed.{begins_listing, reads_directory}
@@ -33,15 +33,12 @@ use Rattle.fs_driven.proofs.Handles.{has_own}
 use Rattle.fs_driven.proofs.Spots.{DrivenAt, LeadsAt, Spot, desk_before, drives_one}
 use Rattle.fs_driven.proofs.Answering.{answered_all}
 use Rattle.fs_driven.proofs.Calls.{HasNoPush, refuses, same_all, same_held}
+use Rattle.fs_chain.proofs.Held.{out_in}
 
 -- ---- a listing that has its reply
 
-abbrev IsOkay : Result ℕ ChainError → Type 0
-IsOkay (Ok n) = Unit {0}
-IsOkay (Err e) = ⊥
-
 pub not_err : (n : ℕ) (e : ChainError) → Ok n ≡ Err e → ⊥
-not_err n e is = subst (λ (r : Result ℕ ChainError). IsOkay r) is tt
+not_err n e is = cc
 
 -- only a listing has one
 abbrev pub WasListing : state.ChainState → Type 0
@@ -52,26 +49,18 @@ pub was_listing : (P : Listing → ListingReply → Type 0) (st new : state.Chai
 was_listing P (at.Lists out l) new len is = (out, l, refl)
 was_listing P _ new len is = absurd (not_err len _ is.0)
 
--- the handle gathers the same listing once its directory was read
 abbrev read_calls : FileCall → FileAnswer → Calls
 read_calls call answer = (call, answer) ∷ []
 
-has_read : (page_size : ℕ) (c : InFlightChain) (w : ChainHandle) (answer : FileAnswer)
-    → (h : HoldsListing page_size c [] [] [] w)
-    → HoldsListing page_size (asked_chain c h.request h.options (read_calls (readdir_call h.asked) answer)) []
-    (read_calls (readdir_call h.asked) answer) [] w
-has_read page_size c w answer h = record {
+-- the handle gathers the same listing once its calls so far are these
+unfoldable pub at_calls : (page_size : ℕ) (c : InFlightChain) (es : List Brought) (list : List ℕ) (w : ChainHandle)
+    (h : HoldsListing page_size c es [] list w) (calls : Calls)
+    → HoldsListing page_size (asked_chain c h.request h.options calls) es calls list w
+at_calls page_size c es list w h calls = record {
   out = h.out;
   listing = h.listing;
   state = h.state;
-  is_out = record {
-    taken = h.is_out.taken;
-    ring = h.is_out.ring;
-    head = h.is_out.head;
-    request_len = h.is_out.request_len;
-    room_len = h.is_out.room_len;
-    small = h.is_out.small;
-  };
+  is_out = out_in c _ _ h.is_out;
   request = h.request;
   options = h.options;
   session = h.session;
@@ -115,11 +104,9 @@ listing_drives : (page_size : ℕ) (old new : ChainHandle) (q : QueueState) (ser
     (λ es d. ReportsListing (transition i.number page_size k (desk_before s i ws os pops) d old new q q) serial answer P (Ok len) es)
 listing_drives page_size old new q serial answer P len was same suited listed reported ws k there s i os pops push
     all =
-    let own_one = all.outs old there (ap is_out was.2) in
-    let c = own_one.0 in
-    let has = has_own s i page_size q ws os k old c pops push all there own_one.1 in
-    let mine = all.mine old c there own_one.1 in
-    let h = begun_listing s.page_size page_size k q push c old was.0 was.1 [] was.2 mine.1 has.holds in
+    let has = has_own s i page_size q ws os k old pops push all there (all.outs old there (ap is_out was.2)) in
+    let c = has.c in
+    let h = begun_listing s.page_size page_size k q push c old was.0 was.1 [] was.2 has.mine.1 has.holds in
     let call : FileCall = readdir_call h.asked in
     let calls : Calls = read_calls call answer in
     let reads = reads_directory s (chains_of has.ob) (chains_of has.oh) c [] [] old answer has.chains h
@@ -129,9 +116,9 @@ listing_drives page_size old new q serial answer P len was same suited listed re
     answered_all s i page_size k q ws has.ob has.oh pops push old new c h.request h.options calls after
     (ReceivesAnswer c call answer ∷ [])
     (λ es d. ReportsListing (transition i.number page_size k (desk_before s i ws os pops) d old new q q) serial answer P (Ok len) es)
-    has.driven there mine.0 (same.0.0, same.0.1) r.holds (no_push new.state h.out r.preserved r.state) r.none_pending
+    has.driven there has.mine.0 (same.0.0, same.0.1) r.holds (no_push new.state h.out r.preserved r.state) r.none_pending
     (after, reads.0, refl) refl refl refl refl refl
-    (λ after' os' pops'. (c, call, h.request, h.options, own_one.1, h.phase, refl, same, refl, reported))
+    (λ after' os' pops'. (c, call, h.request, h.options, has.is_in, h.phase, refl, same, refl, reported))
 
 -- ---- by what each call ensures
 
@@ -152,13 +139,13 @@ pub ended : (old new : ChainHandle) (q : QueueState) (serial : ℕ) (result : Re
     → IsAllButPlace old new
     → IfOk result (λ len. EndsListing old new len)
     → (page_size : ℕ) → DrivesOne page_size old new q q (does.EndListing serial) (gives.Listed result)
-unfolding EndsListing has_read
+unfolding EndsListing at_calls
 ended old new q serial (Ok len) reported ends same stays step page_size = drives_one _ _ (λ ws k there u s i os pops push all.
     listing_drives page_size old new q serial (Entries []) (λ r. EndsByEntries old.state new.state r) len
     (was_listing _ old.state new.state len ends) stays
     (λ page c h. refl)
     (λ page c h. step page (asked_chain c h.request h.options (read_calls (readdir_call h.asked) (Entries []))) []
-    EndsThere (read_calls (readdir_call h.asked) (Entries [])) [] (has_read page c old (Entries []) h) tt refl)
+    EndsThere (read_calls (readdir_call h.asked) (Entries [])) [] (at_calls page c [] [] old h _) tt refl)
     ends ws k there s i os pops push all)
 ended old new q serial (Err e) reported ends same stays step page_size =
     ended_not old new q serial e reported same page_size
@@ -193,14 +180,14 @@ pub failed : (old new : ChainHandle) (q : QueueState) (serial errno : ℕ) (resu
     → IsAllButPlace old new
     → IfOk result (λ len. FailsListing errno old new len)
     → (page_size : ℕ) → DrivesOne page_size old new q q (does.FailListing serial errno) (gives.Listed result)
-unfolding FailsListing has_read
+unfolding FailsListing at_calls
 failed old new q serial errno (Ok len) low high reported ends same stays step page_size =
     drives_one _ _ (λ ws k there u s i os pops push all.
     listing_drives page_size old new q serial (Failed errno) (λ r. EndsByError errno old.state new.state r) len
     (was_listing _ old.state new.state len ends) stays
     (λ page c h. errno_suits errno low high)
     (λ page c h. step page (asked_chain c h.request h.options (read_calls (readdir_call h.asked) (Failed errno))) []
-    (Unreadable errno) (read_calls (readdir_call h.asked) (Failed errno)) [] (has_read page c old (Failed errno) h)
+    (Unreadable errno) (read_calls (readdir_call h.asked) (Failed errno)) [] (at_calls page c [] [] old h _)
     refl (unread (readdir_call h.asked) h.asked.with_nodes errno))
     ends ws k there s i os pops push all)
 failed old new q serial errno (Err e) low high reported ends same stays step page_size =

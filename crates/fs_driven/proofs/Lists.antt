@@ -1,17 +1,13 @@
 -- A call of one of the handles in a list, and calls one behind another.
-use Rattle.std.proofs.Common.{inl, inr, ◌≡◌, ◌⊎◌, ◌<◌, ◌≤◌, ◌+◌, ℕ, zero, suc, List, [], ◌∷◌, ◌++◌, Some, None, arith}
-use Rattle.std.proofs.Common.{false, get_or, zero-le}
-use Rattle.std.proofs.Common.{Option, length, slice_get, refl}
-use Rattle.std.proofs.Common.{subst, sym, ap, ◌∙◌, append-nil}
-use Rattle.std.specs.Prelude.{slice_set, take, drop}
+use Rattle.std.proofs.Common.{inl, inr, ◌≡◌, ◌⊎◌, ◌<◌, ◌≤◌, ◌+◌, ℕ, zero, suc, List, [], ◌∷◌, ◌++◌, Some, None, arith, false, get_or}
+use Rattle.std.proofs.Common.{slice_set, take, drop, zero-le, Option, length, slice_get, refl, subst, sym, ap, ◌∙◌, append-nil}
 use Rattle.fs_chain.specs.Orders.{is_out}
 use Rattle.fs_driven.proofs.Handles.{Seen, carries_on, none_some, not_free, same_first, same_rest}
 use Rattle.fs_driven.proofs.Pops.{idle_may}
 use Rattle.vm_memory_core.specs.Host.{changed_at}
 use Rattle.fs_chain.specs.Holds.{Pop}
 use Rattle.fs_driven.specs.Desks.{BeginsDriven, Begun, Desk, Leads, desk, no_pop, with_pop, with_push, with_queue}
-use Rattle.fs_driven.specs.Reported.{Called, Drives, DrivesOne, ReportsAll, Unseen, call_of, calls_of}
-use Rattle.fs_driven.specs.Reported.{IsMissing, is_of_queue, seen_of}
+use Rattle.fs_driven.specs.Reported.{Called, Drives, DrivesOne, ReportsAll, Unseen, call_of, calls_of, IsMissing, is_of_queue, seen_of}
 use Rattle.fs_chain.specs.Together.{with_handle}
 use Rattle.fs_chain.specs.declared.chain_handle.ChainHandle.{ChainHandle}
 use Rattle.fs_driven.specs.declared.commands.Command.{Command}
@@ -271,11 +267,7 @@ starts s on page_size qs ws none queues page small free =
       small = small;
       mine = λ k w c there m. absurd m;
       outs = λ k w there out. absurd (not_free (is_out w.state) out (ap is_out (free k w there).0));
-      fits = λ k w i q there number queue. (
-        (free k w there).1,
-        (free k w there).2,
-        idle_may s.limit q no_pop w (free k w there).0,
-      );
+      fits = λ k w i q there number queue. ((free k w there).1, (free k w there).2, idle_may s.limit q no_pop w (free k w there).0);
       left = λ c m. absurd m;
       still = λ i q there pushing. refl;
       counts = λ i q there few small. zero-le;

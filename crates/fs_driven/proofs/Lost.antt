@@ -3,8 +3,7 @@ use Rattle.std.proofs.Common.{inl, inr, ◌≡◌, ◌⊎◌, ℕ, Bool, true, f
 use Rattle.std.proofs.Common.{◌≤◌, arith, refl, subst, suc, sym, ap, ◌∙◌, slice_get}
 use Rattle.std.proofs.lemmas.List.{map-append}
 use Rattle.fs_regions.specs.Places.{places_in}
-use Rattle.live_machine.specs.Live.{Abandons, InFlightChain, abandoned_chain, after_abandoning}
-use Rattle.live_machine.specs.Live.{fault_of_phase}
+use Rattle.live_machine.specs.Live.{Abandons, InFlightChain, abandoned_chain, after_abandoning, fault_of_phase}
 use Rattle.live_machine.proofs.Alone.{all_both, all_left, all_right}
 use Rattle.live_machine.specs.Several.{in_flight}
 use Rattle.fs_chain.specs.Holds.{Machine, Pop, live_of}
@@ -97,11 +96,8 @@ one_less n m less = omega arith
 fits_free : (s : Machine) (q : QueueState) (p : Pop) (old new : ChainHandle) → new.state ≡ at.Free →
     new.regions ≡ old.regions → new.limit ≡ old.limit
     → FitsRun s.places s.limit q p old → FitsRun s.places s.limit q no_pop new
-fits_free s q p old new free regions limit was = (
-  was.0 ∙ ap places_in (sym regions),
-  was.1 ∙ sym limit,
-  subst (λ (st : state.ChainState). MayPop s.limit q no_pop new st) (sym free) tt,
-)
+fits_free s q p old new free regions limit was =
+    (was.0 ∙ ap places_in (sym regions), was.1 ∙ sym limit, subst (λ (st : state.ChainState). MayPop s.limit q no_pop new st) (sym free) tt)
 
 -- the next push is stored where it was, and no handle's push ends
 abandoned_moves : (s : Machine) (i : Spot) (page_size k : ℕ) (q : QueueState) (ws : List ChainHandle) (os : List Owned)
@@ -155,10 +151,8 @@ drops old new q freed abandons page_size ws k there u s i os pops push all = by_
       ),
     )
     by_out true some =
-        let own_one = all.outs old there some in
-        let c = own_one.0 in
-        let has = has_own s i page_size q ws os k old c pops push all there own_one.1 in
-        let mine = all.mine old c there own_one.1 in
+        let has = has_own s i page_size q ws os k old pops push all there (all.outs old there some) in
+        let c = has.c in
         let e = abandons s (chains_of has.ob) (chains_of has.oh) c has.chains in
         let after : Machine = after_abandoning s (chains_of has.ob) (chains_of has.oh) c in
         let c' : InFlightChain = abandoned_chain c in
@@ -172,8 +166,8 @@ drops old new q freed abandons page_size ws k there u s i os pops push all = by_
         (λ n counts few small. one_less n (in_flight (live_of q)) (counts few small))
         refl (ap is_out freed.0.3) in
         let there_now : slice_get qs c.queue ≡ Some q =
-        there_same i.queues i.number c.queue (λ _. q) q (sym mine.0)
-        (ap (λ (n : ℕ). slice_get i.queues n) mine.0 ∙ all.there) in (
+        there_same i.queues i.number c.queue (λ _. q) q (sym has.mine.0)
+        (ap (λ (n : ℕ). slice_get i.queues n) has.mine.0 ∙ all.there) in (
           Abandons c ∷ [],
           after,
           has.ob ++ lost c' ∷ has.oh,
@@ -192,7 +186,7 @@ drops old new q freed abandons page_size ws k there u s i os pops push all = by_
             subst (λ (b : Bool). AbandonReports (transition i.number page_size k (desk_before s i ws os pops)
                 (desk_after after i (with_handle ws k new) q (has.ob ++ lost c' ∷ has.oh) (with_pop pops k no_pop) push)
                 old new q q) b (Abandons c ∷ [])) (sym some)
-                (c, own_one.1, refl, here has.ob has.oh (lost c')),
+                (c, has.is_in, refl, here has.ob has.oh (lost c')),
           ),
         )
 

@@ -104,11 +104,10 @@ are_all : (vs : List LiveQueue) (qs : List QueueState)
     → ((j : ℕ) (q : QueueState) → slice_get qs j ≡ Some q → slice_get vs j ≡ Some (live_of q))
     → length vs ≡ length qs → vs ≡ map live_of qs
 are_all [] [] are same = refl
-are_all (v ∷ vs) [] are same = absurd (omega (arith, same))
-are_all [] (q ∷ qs) are same = absurd (omega (arith, same))
 are_all (v ∷ vs) (q ∷ qs) are same =
     ap (λ (x : LiveQueue). x ∷ vs) (same_some v (live_of q) (are zero q refl))
     ∙ ap (λ (l : List LiveQueue). live_of q ∷ l) (are_all vs qs (λ j p there. are (suc j) p there) (omega (arith, same)))
+are_all _ _ are same = absurd (omega (arith, same))
 
 moves_all : (s : Machine) (qs : List QueueState) (m : Memory) → AreQueues s qs → s.chains ≡ [] → MayMove qs
     → (length s.queues == length (moved_of qs)) ≡ true → Moved s qs m
@@ -165,13 +164,7 @@ resets_all s i (q ∷ qs) are none may =
     let mid : Machine = after_reset s i v in
     let first : slice_get s.queues i ≡ Some (live_of q) =
     subst (λ (n : ℕ). slice_get s.queues n ≡ Some (live_of q)) (no_more i) (are zero q refl) in
-    let resets : ResetsQueueSo s i v mid = record {
-      old = live_of q;
-      there = first;
-      positions_agree = may.0;
-      few = may.1;
-      state = refl;
-    } in
+    let resets : ResetsQueueSo s i v mid = record { old = live_of q; there = first; positions_agree = may.0; few = may.1; state = refl } in
     let rest = resets_all mid (suc i) qs
     (λ j p there.
     there_other s.queues i (suc i + j) (λ _. v) (λ same. before i j same)
@@ -221,10 +214,8 @@ resets_and_remaps s qs m are none may isnt_all =
     let r = resets_all s 0 qs
     (λ j p there. subst (λ (n : ℕ). slice_get s.queues n ≡ Some (live_of p)) (from_zero j) (are j p there)) none may in
     let after : Machine = record (r.after) { places = m } in
-    let remaps : RemapsSo r.after m after = record {
-      keeps = subst (λ (cs : List InFlightChain). AllByRecursion (KeepsQueue r.after m) cs) (sym r.chains) tt;
-      state = refl;
-    } in
+    let remaps : RemapsSo r.after m after =
+    record { keeps = subst (λ (cs : List InFlightChain). AllByRecursion (KeepsQueue r.after m) cs) (sym r.chains) tt; state = refl } in
     record {
       after = after;
       run = subst (λ (es : List LiveEvent). LiveRun any_files s es after)

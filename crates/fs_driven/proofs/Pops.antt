@@ -1,21 +1,17 @@
 -- A pop of a handle drives the run.
-use Rattle.std.proofs.Common.{inl, inr, ◌≡◌, ℕ, Bool, false, List, [], ◌∷◌, ◌++◌, length, Option, Some, None}
-use Rattle.std.proofs.Common.{slice_get}
-use Rattle.std.proofs.Common.{refl, subst, suc, sym, ap, ◌∙◌}
-use Rattle.std.specs.Prelude.{Result, Ok, Err, IfErr, IfOk, IsTrue, OnErr, if◌then◌else◌}
-use Rattle.std.proofs.Common.{true, ◌⊎◌}
+use Rattle.std.proofs.Common.{inl, inr, ◌≡◌, ℕ, Bool, false, List, [], ◌∷◌, ◌++◌, length, Option, Some, None, slice_get, refl, subst, suc}
+use Rattle.std.proofs.Common.{Result, Ok, Err, IfErr, IfOk, IsTrue, OnErr, if◌then◌else◌, ◌+◌, ◌<◌, sym, ap, ◌∙◌, true, ◌⊎◌, arith}
 use Rattle.std.specs.Borrow.{Bor}
-use Rattle.fs_chain.specs.Holds.{IsPopOf, pop_of}
+use Rattle.fs_chain.specs.Holds.{IsPopOf, pop_of, BeginsAPop, ContinuesAPop, EndsBy, HasPopped, PopIs, PopsBy, RefusedBy, IsHeldIn, IsQueue}
+use Rattle.fs_chain.specs.Holds.{Machine, Pop, any_files, live_of}
 use Rattle.fs_chain.proofs.HoldsQueues.{live_index, same_index}
 use Rattle.fs_chain.specs.declared.error.ChainError.{ChainError}
 use Rattle.fs_chain.specs.Events.{event_fault, event_miss}
-use Rattle.std.specs.Prelude.{◌+◌, ◌<◌}
-use Rattle.std.proofs.Common.{arith}
 use Rattle.vm_iotlb.specs.declared.iova.IovaRange.{IovaRange}
 use Rattle.vm_iotlb.specs.declared.permissions.Permissions.{Permissions}
 use Rattle.fs_queue.specs.declared.fault.QueueError.{QueueError}
 use Rattle.fs_chain.specs.Loads.{ProceedsSo, IsSame, RefusesWalk, came, whole}
-use Rattle.fs_chain.specs.Orders.{load_len}
+use Rattle.fs_chain.specs.Orders.{load_len, is_out}
 use Rattle.fs_chain.specs.Walks.{BeginsUnless, BeginsWhere, ContinuesUnless, KeepsStep, LacksEvents, WalksFrom, course_of}
 use Rattle.fs_chain.specs.Walks.{queue_after, state_after, reported_of}
 use Rattle.fs_chain.specs.Queues.{pop_id_of}
@@ -33,9 +29,9 @@ use Rattle.fs_regions.specs.declared.step.CourseStep.TheVariants as step
 use Rattle.fs_regions.specs.declared.walk.QueueWalk.{QueueWalk}
 use Rattle.plain_machine.specs.Step.{faulty}
 use Rattle.live_machine.specs.Several as several
-use Rattle.live_machine.specs.Live.{EndsPop, RefusesPop, after_pop, new_chain, phase_by, with_live}
+use Rattle.live_machine.specs.Live.{EndsPop, RefusesPop, after_pop, new_chain, phase_by, with_live, EndsPopIn, InFlightChain, LiveEvent}
+use Rattle.live_machine.specs.Live.{Phase, PushedWith, Happens}
 use Rattle.live_machine.proofs.Queues.{same_some, there_other, there_same}
-use Rattle.fs_chain.specs.Holds.{BeginsAPop, ContinuesAPop, EndsBy, HasPopped, PopIs, PopsBy, RefusedBy}
 use Rattle.fs_chain.specs.declared.loads.LoadOutcome as outcome
 use Rattle.fs_chain.specs.declared.loads.LoadOutcome.TheVariants as outcomes
 use Rattle.fs_chain.specs.declared.popping.PopOutcome as walked
@@ -45,17 +41,9 @@ use Rattle.vm_memory.specs.Memory.{Memory}
 use Rattle.fs_regions.specs.Places.{places_in}
 use Rattle.server_phases.specs.declared.session.Session.{Session}
 use Rattle.live_machine.specs.Several.{LiveQueue, may_take, returning}
-use Rattle.live_machine.specs.Live.{EndsPopIn, InFlightChain, LiveEvent}
-use Rattle.live_machine.specs.Live.{Phase}
-use Rattle.live_machine.specs.Live.{PushedWith}
-use Rattle.live_machine.specs.Live.{Happens}
 use Rattle.fs_driven.specs.Desks.{Begun, Desk, FitsRun, IsReady, MayPop, no_pop, own, with_pop}
 use Rattle.fs_driven.specs.Reported.{DrivesOne, IsLoadedBy, PopReports, Reports, Transition, transition}
 use Rattle.fs_driven.specs.Preserved.{KeepsMemory}
-use Rattle.fs_chain.specs.Holds.{IsHeldIn, IsQueue}
-use Rattle.fs_chain.specs.Holds.{Machine, Pop}
-use Rattle.fs_chain.specs.Holds.{any_files, live_of}
-use Rattle.fs_chain.specs.Orders.{is_out}
 use Rattle.fs_chain.specs.Together.{Owned, with_handle}
 use Rattle.fs_chain.specs.declared.chain_handle.ChainHandle.{ChainHandle}
 use Rattle.fs_driven.specs.declared.commands.Command.TheVariants as does
@@ -65,8 +53,7 @@ use Rattle.fs_chain.specs.declared.state.ChainState as state
 use Rattle.fs_chain.specs.declared.state.ChainState.TheVariants as at
 use Rattle.fs_driven.proofs.Counts.{refused_counts, same_count, took_counts}
 use Rattle.fs_driven.proofs.Handles.{Moves, SamePlaces, held_out, idles, joins, others_same}
-use Rattle.fs_driven.proofs.Calls.{HasNoPush, fetched_ready, fits_out, refuses, stays_put}
-use Rattle.fs_driven.proofs.Calls.{still}
+use Rattle.fs_driven.proofs.Calls.{HasNoPush, fetched_ready, fits_out, refuses, stays_put, still}
 use Rattle.fs_driven.proofs.Spots.{DrivenAt, DrivesAt, LeadsAt, Spot, desk_after, desk_before, drives_one, with_pop_same}
 
 pub idle_may : (limit : ℕ) (q : QueueState) (p : Pop) (w : ChainHandle) → w.state ≡ at.Free →
@@ -450,11 +437,7 @@ pub begun_keeps : (old new : ChainHandle) (q q' : QueueState) (reported : walked
     BeginsUnless stopped old new q q' reported
     → Popping old new q q'
 begun_keeps old new q q' reported (Some why) free by =
-    record {
-      memory = (by.1.0.0, by.1.0.1);
-      pushing = ap (λ (r : QueueState). r.pushing) by.2;
-      quiet = free_quiet new (by.1.3 ∙ free);
-    }
+    record { memory = (by.1.0.0, by.1.0.1); pushing = ap (λ (r : QueueState). r.pushing) by.2; quiet = free_quiet new (by.1.3 ∙ free) }
 begun_keeps old new q q' reported None free by =
     by_fault old new q q' reported (event_fault (places_in old.regions) q) free by
   where
@@ -487,11 +470,7 @@ pub gone_keeps : (old new : ChainHandle) (q q' : QueueState) (bytes : List ℕ) 
     (course : Course) (pop_id : PopId) (walk : QueueWalk) (stopped : Option QueueError) →
     ContinuesUnless stopped course pop_id walk bytes old new q q' reported → Popping old new q q'
 gone_keeps old new q q' bytes reported course pop_id walk (Some why) by =
-    record {
-      memory = (by.1.0.0, by.1.0.1);
-      pushing = ap (λ (r : QueueState). r.pushing) by.2;
-      quiet = free_quiet new by.1.3;
-    }
+    record { memory = (by.1.0.0, by.1.0.1); pushing = ap (λ (r : QueueState). r.pushing) by.2; quiet = free_quiet new by.1.3 }
 gone_keeps old new q q' bytes reported course pop_id walk None by =
     preserved_step course pop_id by.0 old new q q' reported by.1
 

@@ -1,7 +1,6 @@
 -- New memory drives the run: handles of it take regions while no chain is in flight.
-use Rattle.std.proofs.Common.{inl, ◌≡◌, ◌≤◌, ◌<◌, ◌^◌, ℕ, zero, suc, Bool, true, false, List, [], ◌∷◌}
-use Rattle.std.proofs.Common.{Option, Some, None, arith, length, refl, subst, sym, ap, ◌∙◌, slice_get, zero-le}
-use Rattle.std.specs.Prelude.{Err, IfErr, Ok, OnErr, OnOk, Result, if◌then◌else◌, map}
+use Rattle.std.proofs.Common.{inl, ◌≡◌, ◌≤◌, ◌<◌, ◌^◌, ℕ, zero, suc, Bool, true, false, List, [], ◌∷◌, Err, IfErr, Ok, OnErr, OnOk, Result}
+use Rattle.std.proofs.Common.{if◌then◌else◌, map, Option, Some, None, arith, length, refl, subst, sym, ap, ◌∙◌, slice_get, zero-le}
 use Rattle.std.specs.Borrow.{Bor}
 use Rattle.std.specs.Global.{Global}
 use Rattle.std.specs.List.{AllByRecursion}
@@ -78,10 +77,7 @@ pub is_empty : (s : Machine) (on : List ℕ) (page_size : ℕ) (qs : List QueueS
     (pops : ℕ → Pop) (pushes : ℕ → Option Begun) → Driven s on page_size qs ws os pops pushes → HaveNone qs → Empty s os
 is_empty s on page_size qs ws os pops pushes all none =
     let owned = none_owned s on page_size qs ws os pops pushes all none in
-    record {
-      owned = owned;
-      chains = all.all.chains ∙ ap (λ (l : List Owned). map (λ (o : Owned). o.chain) l) owned;
-    }
+    record { owned = owned; chains = all.all.chains ∙ ap (λ (l : List Owned). map (λ (o : Owned). o.chain) l) owned }
 
 -- ---- handles that take memory
 
@@ -94,11 +90,8 @@ pub record Took (regions : List Region) (olds : List ChainHandle) (k : ℕ) (new
 pub took : (regions : List Region) (olds news : List ChainHandle) (k : ℕ) (new : ChainHandle)
     → TakeMemory regions olds news → slice_get news k ≡ Some new → Took regions olds k new
 took regions [] [] k new all there = absurd (none_some new there)
-took regions (w ∷ olds) (v ∷ news) zero new all there = record {
-  old = w;
-  there = refl;
-  takes = subst (λ (x : ChainHandle). TakesMemory regions w x) (same_some v new there) all.0;
-}
+took regions (w ∷ olds) (v ∷ news) zero new all there =
+    record { old = w; there = refl; takes = subst (λ (x : ChainHandle). TakesMemory regions w x) (same_some v new there) all.0 }
 took regions (w ∷ olds) (v ∷ news) (suc k) new all there =
     let r = took regions olds news k new all.1 there in
     record { old = r.old; there = r.there; takes = r.takes }

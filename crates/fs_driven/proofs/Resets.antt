@@ -7,8 +7,7 @@ use Rattle.std.specs.List.{AllByRecursion}
 use Rattle.std.proofs.lemmas.Bool.{ltb-false, ltb-true}
 use Rattle.fs_queue.specs.declared.layout.QueueLayout.{QueueLayout}
 use Rattle.live_machine.specs.Several.{in_flight}
-use Rattle.live_machine.specs.Live.{InFlightChain, LiveRun, ResetsQueue, StoresNotification}
-use Rattle.live_machine.specs.Live.{after_reset}
+use Rattle.live_machine.specs.Live.{InFlightChain, LiveRun, ResetsQueue, StoresNotification, after_reset}
 use Rattle.live_machine.proofs.Queues.{none_some, preserved_not, same_some, there_other}
 use Rattle.vm_memory.specs.Memory.{reach}
 use Rattle.vm_iotlb.specs.declared.permissions.Permissions.TheVariants.{Write}
@@ -162,11 +161,8 @@ was_in i x (o ∷ os) =
   where
     by_place : (o.chain.queue == i) ≡ false → (In x (of_others i os) → In x os × (x.chain.queue ≡ i → ⊥)) →
         In x (o ∷ of_others i os) → In x (o ∷ os) × (x.chain.queue ≡ i → ⊥)
-    by_place is rest (inl e) = (
-      inl e,
-      λ same. not_free (o.chain.queue == i)
-          (eq-eqb o.chain.queue i (sym (ap (λ (y : Owned). y.chain.queue) e) ∙ same)) is,
-    )
+    by_place is rest (inl e) =
+        (inl e, λ same. not_free (o.chain.queue == i) (eq-eqb o.chain.queue i (sym (ap (λ (y : Owned). y.chain.queue) e) ∙ same)) is)
     by_place is rest (inr m) = let r = rest m in (inr r.0, r.1)
 
 still_in : (i : ℕ) (x : Owned) (os : List Owned) → In x os → (x.chain.queue ≡ i → ⊥) → In x (of_others i os)

@@ -1,7 +1,6 @@
 -- A queue of a driver among its others: what a call of one of its handles needs of them all.
-use Rattle.std.proofs.Common.{◌≡◌, ◌≤◌, ◌^◌, ℕ, Bool, true, false, List, Option, Some, None, slice_get}
-use Rattle.std.proofs.Common.{◌==◌, eq-eqb, eqb-true, refl, subst, sym, ap, ◌∙◌}
-use Rattle.std.specs.Prelude.{if◌then◌else◌}
+use Rattle.std.proofs.Common.{◌≡◌, ◌≤◌, ◌^◌, ℕ, Bool, true, false, List, Option, Some, None, slice_get, if◌then◌else◌, ◌==◌, eq-eqb}
+use Rattle.std.proofs.Common.{eqb-true, refl, subst, sym, ap, ◌∙◌}
 use Rattle.live_machine.specs.Live.{InFlightChain, LiveEvent}
 use Rattle.live_machine.proofs.Queues.{same_some}
 use Rattle.fs_chain.specs.Holds.{IsQueue, Machine, Pop}

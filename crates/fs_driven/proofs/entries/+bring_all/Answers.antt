@@ -4,9 +4,8 @@ use Rattle.fs_driven.proofs.Bringing.{brings_more, brings_none, brings_not, ok_i
 use Rattle.fs_driven.proofs.entries.+bring_all.Goals as goal
 
 pub returns-in-None : goal.returns-in-None
-returns-in-None t c = record {
-  all = brings_none c.args.handle.now c.args.serial c.args.list.now c.args.names.now c.args.entries.now (search rules);
-}
+returns-in-None t c =
+    record { all = brings_none c.args.handle.now c.args.serial c.args.list.now c.args.names.now c.args.entries.now (search rules) }
 
 pub returns-in-Ok-In : goal.returns-in-Ok-In
 returns-in-Ok-In t c = record {
