@@ -1,7 +1,6 @@
 -- Stores at places apart go in either order.
 use Rattle.std.proofs.Common.{◌≡◌, ℕ, zero, suc, ◌+◌, ◌-◌, ◌/◌, ◌^◌, ◌<◌, ◌≤◌, Bool, true, false, List, [], ◌∷◌, ◌++◌, length, take, drop}
-use Rattle.std.proofs.Common.{set}
-use Rattle.std.proofs.Common.{refl, sym, ap, ◌∙◌, arith, inl, inr, ⊎_elim, subst, Option, None, Some, nat_lt, if◌then◌else◌}
+use Rattle.std.proofs.Common.{set, refl, sym, ap, ◌∙◌, arith, inl, inr, ⊎_elim, subst, Option, None, Some, nat_lt, if◌then◌else◌}
 use Rattle.std.specs.Prelude.{◌⊎◌, ◌↔◌, ◌||◌, ◌==◌, not, nat_le, IsTrue}
 use Rattle.std.proofs.lemmas.Bool.Decides.{nat_tests}
 use Rattle.std.specs.Option.{is_none}
@@ -234,11 +233,10 @@ nothing_left A ps qs all none = all.1 (subst (Apart ps) (sym (nil_from_length qs
 -- and where one of the first is
 cut_front : (ps : List Place) (k n : ℕ) → k ≤ n → take n ps ≡ take k ps ++ take (n - k) (drop k ps)
 cut_front ps zero n le = ap (λ i. take i ps) (let e : n ≡ n - 0 = omega arith in e)
-cut_front [] (suc k) zero le = absurd (omega (arith, le))
 cut_front [] (suc k) (suc n) le = sym (take-nil (suc n - suc k))
-cut_front (p ∷ ps) (suc k) zero le = absurd (omega (arith, le))
 cut_front (p ∷ ps) (suc k) (suc n) le = ap (λ l. p ∷ l)
     (cut_front ps k n (omega (arith, le)) ∙ ap (λ i. take k ps ++ take i (drop k ps)) (let e : n - k ≡ suc n - suc k = omega arith in e))
+cut_front _ (suc k) zero le = absurd (omega (arith, le))
 
 pub front_decides : (A : Type 0) (ps qs part : List Place) (k n : ℕ) → k ≤ n → part ≡ take k ps → A ↔ Apart (take n ps) qs → Apart part qs →
     A ↔ Apart (take (n - k) (drop k ps)) qs

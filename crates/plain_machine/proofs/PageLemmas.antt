@@ -4,6 +4,7 @@ use Rattle.std.proofs.Common.{Option, Some, None, refl, ap, sym, ◌∙◌, subs
 use Rattle.std.specs.Prelude.{if◌then◌else◌, ◌==◌, ◌≢◌, slice_get, slice_set, option_map, option_and_then, is_some}
 use Rattle.std.specs.List.{list_any}
 use Rattle.std.proofs.lemmas.Bool.{cases_eq, eq-eqb, ne_eqb}
+use Rattle.std.proofs.Math.Bool.{and-false, or-false, or-true, or_assoc}
 use Rattle.std.proofs.lemmas.List.Folds.{list_any-append}
 use Rattle.vm_iotlb.specs.declared.range.IotlbRange.{IotlbRange}
 use Rattle.vm_iotlb.specs.declared.permissions.Permissions.TheVariants.{Write}
@@ -30,14 +31,34 @@ changed_there (x ∷ l) zero zero f apart = absurd (apart refl)
 changed_there (x ∷ l) (suc i) (suc j) f apart = changed_there l i j f (λ e. apart (ap suc e))
 changed_there _ _ _ f apart = refl
 
-set_here : (l : List Bool) (i : ℕ) → slice_get (slice_set l i true) i ≡ option_map (λ was. true) (slice_get l i)
-set_here (x ∷ l) (suc i) = set_here l i
-set_here _ _ = refl
+-- what is seen of an element after one is changed: that one, or another
+pub changed_seen : {X Y : Type 0} (seen : Option X → Y) (l : List X) (i j : ℕ) (f : X → X) (after : Bool → Y) →
+    seen (option_map f (slice_get l j)) ≡ after true → seen (slice_get l j) ≡ after false →
+    seen (slice_get (changed_at l i f) j) ≡ after (i == j)
+changed_seen seen l i j f after here there =
+    ⊎_elim
+    (λ (e : i ≡ j). ap seen (ap (λ (k : ℕ). slice_get (changed_at l k f) j) e ∙ changed_here l j f) ∙ here ∙ ap after (sym (eq-eqb i j e)))
+    (λ (apart : i ≢ j). ap seen (changed_there l i j f apart) ∙ there ∙ ap after (sym (ne_eqb i j apart)))
+    (cases_eq i j)
 
-set_there : (l : List Bool) (i j : ℕ) → i ≢ j → slice_get (slice_set l i true) j ≡ slice_get l j
-set_there (x ∷ l) zero zero apart = absurd (apart refl)
-set_there (x ∷ l) (suc i) (suc j) apart = set_there l i j (λ e. apart (ap suc e))
-set_there _ _ _ apart = refl
+set_here : {X : Type 0} (l : List X) (i : ℕ) (x : X) → slice_get (slice_set l i x) i ≡ option_map (λ _. x) (slice_get l i)
+set_here (y ∷ l) (suc i) x = set_here l i x
+set_here _ _ x = refl
+
+-- another element than the one that is set
+pub set_there : {X : Type 0} (l : List X) (i j : ℕ) (x : X) → i ≢ j → slice_get (slice_set l i x) j ≡ slice_get l j
+set_there (y ∷ l) zero zero x apart = absurd (apart refl)
+set_there (y ∷ l) (suc i) (suc j) x apart = set_there l i j x (λ e. apart (ap suc e))
+set_there _ _ _ x apart = refl
+
+-- an element after one is set
+pub set_seen : {X : Type 0} (l : List X) (i j : ℕ) (x : X) (after : Bool → Option X) →
+    option_map (λ _. x) (slice_get l j) ≡ after true → slice_get l j ≡ after false → slice_get (slice_set l i x) j ≡ after (i == j)
+set_seen l i j x after here there =
+    ⊎_elim
+    (λ (e : i ≡ j). ap (λ (k : ℕ). slice_get (slice_set l k x) j) e ∙ set_here l j x ∙ here ∙ ap after (sym (eq-eqb i j e)))
+    (λ (apart : i ≢ j). set_there l i j x apart ∙ there ∙ ap after (sym (ne_eqb i j apart)))
+    (cases_eq i j)
 
 -- ---- a mark, as it was or set
 
@@ -45,40 +66,23 @@ set_there _ _ _ apart = refl
 abbrev or_set : Bool → Option Bool → Option Bool
 or_set here old = option_map (λ was. was || here) old
 
-or_true : (b : Bool) → true ≡ (b || true)
-or_true true = refl
-or_true false = refl
-
-or_false : (b : Bool) → b ≡ (b || false)
-or_false true = refl
-or_false false = refl
-
-or_more : (a b c : Bool) → ((a || b) || c) ≡ (a || (b || c))
-or_more true b c = refl
-or_more false b c = refl
-
 is_set : (o : Option Bool) → option_map (λ was. true) o ≡ or_set true o
 is_set None = refl
-is_set (Some b) = ap Some (or_true b)
+is_set (Some b) = ap Some (sym (or-true b))
 
 stays : (o : Option Bool) → o ≡ or_set false o
 stays None = refl
-stays (Some b) = ap Some (or_false b)
+stays (Some b) = ap Some (sym (or-false b))
 
 more_set : (a b : Bool) (o : Option Bool) → or_set b (or_set a o) ≡ or_set (a || b) o
 more_set a b None = refl
-more_set a b (Some c) = ap Some (or_more c a b)
+more_set a b (Some c) = ap Some (or_assoc c a b)
 
 -- the page k is set, and this is looked at
 page_set : (marks : List Bool) (k page : ℕ) → slice_get (slice_set marks k true) page ≡ or_set (k == page) (slice_get marks page)
 page_set marks k page =
-    ⊎_elim
-    (λ (e : k ≡ page).
-    ap (λ (j : ℕ). slice_get (slice_set marks j true) page) e ∙ set_here marks page ∙ is_set (slice_get marks page)
-    ∙ ap (λ (b : Bool). or_set b (slice_get marks page)) (sym (eq-eqb k page e)))
-    (λ (apart : k ≢ page). set_there marks k page apart ∙ stays (slice_get marks page)
-    ∙ ap (λ (b : Bool). or_set b (slice_get marks page)) (sym (ne_eqb k page apart)))
-    (cases_eq k page)
+    set_seen marks k page true (λ (here : Bool). or_set here (slice_get marks page)) (is_set (slice_get marks page))
+    (stays (slice_get marks page))
 
 -- ---- a block's page
 
@@ -99,38 +103,16 @@ byte_marks_none (Some b) offset byte page = refl
 -- a byte that is put marks no page by itself
 byte_put : (h : Host) (p : Place) (byte block page : ℕ) → block_mark (with_byte h p byte) block page ≡ block_mark h block page
 byte_put h p byte block page =
-    ⊎_elim
-    (λ (e : p.block ≡ block).
-    ap (page_in page)
-    (ap (λ (j : ℕ). slice_get (changed_at h.blocks p.block (λ b. record b { bytes = slice_set b.bytes p.offset byte })) j) (sym e)
-    ∙ changed_here h.blocks p.block _)
-    ∙ byte_marks_none (slice_get h.blocks p.block) p.offset byte page ∙ ap (λ (j : ℕ). page_in page (slice_get h.blocks j)) e)
-    (λ (apart : p.block ≢ block). ap (page_in page) (changed_there h.blocks p.block block _ apart))
-    (cases_eq p.block block)
-
-and_set : (a b : Bool) (o : Option Bool) → a ≡ true → or_set b o ≡ or_set (a && b) o
-and_set true b o e = refl
-and_set false b o e = absurd (cc)
-
-and_unset : (a b : Bool) (o : Option Bool) → a ≡ false → o ≡ or_set (a && b) o
-and_unset true b o e = absurd (cc)
-and_unset false b o e = stays o
+    changed_seen (page_in page) h.blocks p.block block (λ b. record b { bytes = slice_set b.bytes p.offset byte })
+    (λ (here : Bool). block_mark h block page) (byte_marks_none (slice_get h.blocks block) p.offset byte page) refl
 
 -- the page of a place is marked, and this is looked at
 block_marked : (h : Host) (p : Place) (block page : ℕ) →
     block_mark (with_mark_by None p h) block page ≡ or_set (is_in_page block page (Some p)) (block_mark h block page)
 block_marked h p block page =
-    ⊎_elim
-    (λ (e : p.block ≡ block).
-    ap (page_in page) (ap (λ (j : ℕ). slice_get (changed_at h.blocks p.block
-    (λ b. record b { marks = slice_set b.marks (p.offset / 4096) true })) j) (sym e) ∙ changed_here h.blocks p.block _)
-    ∙ page_marked (p.offset / 4096) page (slice_get h.blocks p.block)
-    ∙ ap (λ (j : ℕ). or_set (p.offset / 4096 == page) (page_in page (slice_get h.blocks j))) e
-    ∙ and_set (p.block == block) (p.offset / 4096 == page) (block_mark h block page) (eq-eqb p.block block e))
-    (λ (apart : p.block ≢ block).
-    ap (page_in page) (changed_there h.blocks p.block block _ apart)
-    ∙ and_unset (p.block == block) (p.offset / 4096 == page) (block_mark h block page) (ne_eqb p.block block apart))
-    (cases_eq p.block block)
+    changed_seen (page_in page) h.blocks p.block block (λ b. record b { marks = slice_set b.marks (p.offset / 4096) true })
+    (λ (here : Bool). or_set (here && (p.offset / 4096 == page)) (block_mark h block page))
+    (page_marked (p.offset / 4096) page (slice_get h.blocks block)) (stays (block_mark h block page))
 
 -- ---- an I/O page
 
@@ -155,19 +137,10 @@ io_marked : (h : Host) (a : IoAddress) (p : Place) (set page : ℕ) →
     io_mark (with_mark_by (Some a) p h) set page
     ≡ or_set ((a.set == set) && (nat_lt a.address (2 ^ 64) && (a.address / 4096 == page))) (io_mark h set page)
 io_marked h a p set page =
-    let here = nat_lt a.address (2 ^ 64) && (a.address / 4096 == page) in
-    ⊎_elim
-    (λ (e : a.set ≡ set).
-    ap (io_page_in page)
-    (ap (λ (j : ℕ). slice_get (changed_at h.io_marks a.set
-    (λ marks. if nat_lt a.address (2 ^ 64) then slice_set marks (a.address / 4096) true else marks)) j) (sym e)
-    ∙ changed_here h.io_marks a.set _)
-    ∙ io_page_marked (nat_lt a.address (2 ^ 64)) (a.address / 4096) page (slice_get h.io_marks a.set)
-    ∙ ap (λ (j : ℕ). or_set here (io_page_in page (slice_get h.io_marks j))) e
-    ∙ and_set (a.set == set) here (io_mark h set page) (eq-eqb a.set set e))
-    (λ (apart : a.set ≢ set). ap (io_page_in page) (changed_there h.io_marks a.set set _ apart)
-    ∙ and_unset (a.set == set) here (io_mark h set page) (ne_eqb a.set set apart))
-    (cases_eq a.set set)
+    changed_seen (io_page_in page) h.io_marks a.set set
+    (λ marks. if nat_lt a.address (2 ^ 64) then slice_set marks (a.address / 4096) true else marks)
+    (λ (here : Bool). or_set (here && (nat_lt a.address (2 ^ 64) && (a.address / 4096 == page))) (io_mark h set page))
+    (io_page_marked (nat_lt a.address (2 ^ 64)) (a.address / 4096) page (slice_get h.io_marks set)) (stays (io_mark h set page))
 
 -- ---- one store
 
@@ -198,16 +171,12 @@ on_block : (m : Memory) (byte address : ℕ) (o : Option Place) (block page : �
 on_block m byte address None block page = stays (block_mark m.host block page)
 on_block m byte address (Some p) block page = byte_put m.host p byte block page ∙ stays (block_mark m.host block page)
 
-and_none : (a : Bool) → (a && false) ≡ false
-and_none true = refl
-and_none false = refl
-
 on_io : (m : Memory) (byte address : ℕ) (o : Option Place) (set page : ℕ) →
     io_mark (stored_at m byte (for_io m.io_pages address o)).host set page
     ≡ or_set ((m.io_pages == set) && (is_some (for_io m.io_pages address o) && (nat_lt address (2 ^ 64) && (address / 4096 == page))))
     (io_mark m.host set page)
 on_io m byte address None set page =
-    stays (io_mark m.host set page) ∙ ap (λ (b : Bool). or_set b (io_mark m.host set page)) (sym (and_none (m.io_pages == set)))
+    stays (io_mark m.host set page) ∙ ap (λ (b : Bool). or_set b (io_mark m.host set page)) (sym (and-false (m.io_pages == set)))
 on_io m byte address (Some p) set page = io_marked (with_byte m.host p byte) (record { set = m.io_pages; address = address }) p set page
 
 -- either way

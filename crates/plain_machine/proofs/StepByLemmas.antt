@@ -4,6 +4,7 @@ use Rattle.std.proofs.Common.{take-append-drop, inl, inr, Bool, Option, Some, No
 use Rattle.std.specs.Prelude.{slice_get, flat_map}
 use Rattle.std.specs.List.{zip, AllByRecursion, Contains}
 use Rattle.std.proofs.lemmas.List.Concat.{flat_map-append}
+use Rattle.std.proofs.lemmas.Option.{none-some, same_Some}
 use Rattle.std.proofs.lemmas.List.Elements.{Contains-append_left, Contains-append_right}
 use Rattle.vm_iotlb.specs.declared.permissions.Permissions.TheVariants.{Write}
 use Rattle.vm_memory_core.specs.Host.{Place, changed_at}
@@ -25,16 +26,9 @@ use Rattle.plain_machine.specs.declared.error.DeviceError.TheVariants as device
 use Rattle.plain_machine.specs.Step.{State, Exchange, StepEnd, Idle, Refused, Exchanged, Calls, Unchanged, Acts, Exchanges, Returns, StepOf}
 use Rattle.plain_machine.specs.Step.{with_queue, faulty, served_exchange}
 use Rattle.plain_machine.specs.StepBy.{StepLoads, AreStepLoadsOf, byte_store, reply_stores, return_stores, after_stores, Act, Effects}
-use Rattle.plain_machine.specs.StepBy.{stores_among, return_acts}
-use Rattle.plain_machine.specs.StepBy.{DoesNothing, FindFlags, ReturnsBy, ExchangesBy, ActsBy, StepOfBy, IsFrontApart, MayStoreLast}
-use Rattle.plain_machine.specs.StepBy.{IsOfMemory, HasEffects, StepByIsStep}
-use Rattle.plain_machine.specs.StepBy.{StepIsStepBy, StoresOnlyThere, return_addresses}
-
-some_same : {A : Type 0} (x y : A) → Some x ≡ Some y → x ≡ y
-some_same x y e = cc
-
-none_some : {A : Type 0} (x : A) → None ≡ Some x → ⊥
-none_some x e = cc
+use Rattle.plain_machine.specs.StepBy.{stores_among, return_acts, DoesNothing, FindFlags, ReturnsBy, ExchangesBy, ActsBy, StepOfBy}
+use Rattle.plain_machine.specs.StepBy.{IsFrontApart, MayStoreLast, IsOfMemory, HasEffects, StepByIsStep, StepIsStepBy, StoresOnlyThere}
+use Rattle.plain_machine.specs.StepBy.{return_addresses}
 
 -- ---- what stores write
 
@@ -202,21 +196,7 @@ module _ {F : Type 0} (may : May F) (s : State F) (i : ℕ) (e : Effects) (after
         ActsBy may s i q o calls outcome e after → Acts may s i q o calls outcome (at after stored)
     acts_still o calls Idle last (offered, same, none) = (offered, still calls same none)
     acts_still o calls (Refused (device.Queue stop.OutOfMemory)) last (lacks, same, none) = (lacks, still calls same none)
-    acts_still o calls (Refused (device.Queue stop.Stopped)) last (is, no_call, state, none) = (is, no_call, refused_still q _ state none)
-    acts_still o calls (Refused (device.Queue stop.AvailIndexUnreachable)) last (is, no_call, state, none) =
-        (is, no_call, refused_still q _ state none)
-    acts_still o calls (Refused (device.Queue stop.AvailTooFar)) last (is, no_call, state, none) =
-        (is, no_call, refused_still q _ state none)
-    acts_still o calls (Refused (device.Queue stop.RingEntryUnreachable)) last (is, no_call, state, none) =
-        (is, no_call, refused_still q _ state none)
-    acts_still o calls (Refused (device.Queue stop.HeadOutOfTable)) last (is, no_call, state, none) =
-        (is, no_call, refused_still q _ state none)
-    acts_still o calls (Refused (device.Queue stop.UsedUnreachable)) last (is, no_call, state, none) =
-        (is, no_call, refused_still q _ state none)
-    acts_still o calls (Refused (device.Queue stop.AvailFlagsUnreachable)) last (is, no_call, state, none) =
-        (is, no_call, refused_still q _ state none)
-    acts_still o calls (Refused (device.Queue stop.DescriptorUnreachable)) last (is, no_call, state, none) =
-        (is, no_call, refused_still q _ state none)
+    acts_still o calls (Refused (device.Queue e)) last made = (made.0, made.1, refused_still q _ made.2 made.3)
     acts_still o calls (Refused device.NoSuchQueue) last made = absurd made
     acts_still o calls (Exchanged x notice) last made = exchanges_still o calls x notice last made
 
@@ -245,7 +225,7 @@ flags_after m q stores = bytes (after_stores m stores) q.avail 2
 
 module _ {F : Type 0} (may : May F) (s : State F) (i : ℕ) (q : Queue) (there : slice_get s.queues i ≡ Some q) where
   same_queue : (p : Queue) → slice_get s.queues i ≡ Some p → q ≡ p
-  same_queue p at = some_same q p (sym there ∙ at)
+  same_queue p at = same_Some q p (sym there ∙ at)
 
   with_effects :
       (h : HasLoads s.memory s.limit q) (did : List Act) (calls : Calls) (outcome : StepEnd) (after : State F) → FindFlags s.memory q did →
@@ -345,22 +325,8 @@ module _ {F : Type 0} (may : May F) (s : State F) (i : ℕ) (q : Queue) (there :
   acts_by h calls (Refused (device.Queue stop.OutOfMemory)) after (lacks, same) =
       with_effects h [] calls (Refused (device.Queue stop.OutOfMemory)) after tt (preserved_memory after s same.same refl)
       (lacks, unchanged_by calls after same, refl)
-  acts_by h calls (Refused (device.Queue stop.Stopped)) after (is, none, state) =
-      refused_by h stop.Stopped calls after state (is, none, over_same after _ state, refl)
-  acts_by h calls (Refused (device.Queue stop.AvailIndexUnreachable)) after (is, none, state) =
-      refused_by h stop.AvailIndexUnreachable calls after state (is, none, over_same after _ state, refl)
-  acts_by h calls (Refused (device.Queue stop.AvailTooFar)) after (is, none, state) =
-      refused_by h stop.AvailTooFar calls after state (is, none, over_same after _ state, refl)
-  acts_by h calls (Refused (device.Queue stop.RingEntryUnreachable)) after (is, none, state) =
-      refused_by h stop.RingEntryUnreachable calls after state (is, none, over_same after _ state, refl)
-  acts_by h calls (Refused (device.Queue stop.HeadOutOfTable)) after (is, none, state) =
-      refused_by h stop.HeadOutOfTable calls after state (is, none, over_same after _ state, refl)
-  acts_by h calls (Refused (device.Queue stop.UsedUnreachable)) after (is, none, state) =
-      refused_by h stop.UsedUnreachable calls after state (is, none, over_same after _ state, refl)
-  acts_by h calls (Refused (device.Queue stop.AvailFlagsUnreachable)) after (is, none, state) =
-      refused_by h stop.AvailFlagsUnreachable calls after state (is, none, over_same after _ state, refl)
-  acts_by h calls (Refused (device.Queue stop.DescriptorUnreachable)) after (is, none, state) =
-      refused_by h stop.DescriptorUnreachable calls after state (is, none, over_same after _ state, refl)
+  acts_by h calls (Refused (device.Queue e)) after made =
+      refused_by h e calls after made.2 (made.0, made.1, over_same after _ made.2, refl)
   acts_by h calls (Refused device.NoSuchQueue) after made = absurd made
   acts_by h calls (Exchanged x notice) after made = exchange_by h (offer s.memory s.limit q) refl calls x notice after made
 
@@ -375,8 +341,8 @@ missing_by {F} may s i calls outcome after missing is same =
       loads = l;
       effects = e;
       are = record {
-        loads = λ p at. absurd (none_some p (sym missing ∙ at));
-        flags = λ p at. absurd (none_some p (sym missing ∙ at));
+        loads = λ p at. absurd (none-some p (sym missing ∙ at));
+        flags = λ p at. absurd (none-some p (sym missing ∙ at));
         apart = λ p head request room at is. inl refl;
       };
       memory = ap (λ (t : State F). t.memory) same.same;
@@ -488,5 +454,5 @@ stores_only_there may s i l calls outcome e after q o there is made =
     let found : StepOfBy may s i (Some q) l calls outcome e after =
     subst (λ (k : Option Queue). StepOfBy may s i k l calls outcome e after) there made in
     subst (λ (k : Offer). AllByRecursion (λ (w : ℕ × ℕ). Contains (return_addresses q k) w.0) (flat_map writes_of (stores_among e.acts)))
-    (some_same found.0 o (sym found.1 ∙ is))
+    (same_Some found.0 o (sym found.1 ∙ is))
     (acts_there may s i q e after found.0 calls outcome found.2)

@@ -2,6 +2,7 @@
 use Rattle.std.proofs.Common.{◌≡◌, ℕ, ◌≤◌, Bool, List, [], ◌∷◌, ◌++◌, length, suc, Option, Some, None, refl, ap, sym, ◌∙◌, subst, arith}
 use Rattle.std.proofs.Common.{append_assoc}
 use Rattle.std.specs.Prelude.{slice_get, zip}
+use Rattle.std.proofs.lemmas.List.{nil_from_length}
 use Rattle.vm_memory.specs.Memory.{Memory, stored_all}
 use Rattle.fs_queue.specs.Queue.{Queue}
 use Rattle.fs_queue.specs.Taking.{RequestAndRoom, IsRequest, CannotFetch, Offer, Offers, offer, room_of}
@@ -23,10 +24,6 @@ zip_nothing : (xs ys : List ℕ) → ys ≡ [] → zip xs ys ≡ []
 zip_nothing (x ∷ xs) (y ∷ ys) e = absurd (cc)
 zip_nothing _ _ e = refl
 
-no_byte : (ys : List ℕ) → length ys ≡ 0 → ys ≡ []
-no_byte [] e = refl
-no_byte (y ∷ ys) e = absurd (omega (arith, e))
-
 -- what is written, in two parts
 in_two :
     (q : Queue) (head : ℕ) (room reply : List ℕ) → writes q head room reply ≡ reply_writes room reply ++ ring_writes q head (length reply)
@@ -44,7 +41,8 @@ reports m q head room reply after is fits headed =
       header = headed;
       nothing = λ none.
           written
-          ∙ ap (λ (ws : List (ℕ × ℕ)). stored_all m (ws ++ ring_writes q head (length reply))) (zip_nothing room reply (no_byte reply none))
+          ∙ ap (λ (ws : List (ℕ × ℕ)). stored_all m (ws ++ ring_writes q head (length reply)))
+          (zip_nothing room reply (nil_from_length reply none))
           ∙ ap (λ (n : ℕ). stored_all m (ring_writes q head n)) none;
     }
 
@@ -96,6 +94,13 @@ exchange_returns {F} may s i q head (CannotFetch why) calls x notice after r =
 exchange_returns {F} may s i q head (IsRequest request room) calls x notice after r =
     ap (λ (t : State F). t.memory) r.returns.state
     ∙ ap (returned s.memory q head room) (sym (ap (λ (e : Exchange). e.reply) r.returns.exchange))
+
+-- so a step that exchanges changes a memory by stores alone
+pub step_stores : {F : Type 0} (may : May F) (s after : State F) (i : ℕ) (calls : Calls) (x : Exchange) (notice : Bool) →
+    Step may s i calls (Exchanged x notice) after → (ws : List (ℕ × ℕ)) × (after.memory ≡ stored_all s.memory ws)
+step_stores may s after i calls x notice step =
+    let o = step_offers may s after i calls x notice step in
+    (writes o.0.queue x.head (room_of o.0.fetched) x.reply, exchange_returns may s i o.0.queue x.head o.0.fetched calls x notice after o.1)
 
 -- a reply begins with its header and has room
 exchange_reported : {F : Type 0} (may : May F) (s : State F) (i : ℕ) (q : Queue) (head : ℕ) (fetched : RequestAndRoom) (calls : Calls)
