@@ -1,6 +1,5 @@
 -- Calls of the exports meet the hypotheses of the laws of notifications.
-use Rattle.std.proofs.Common.{arith, ◌≡◌, ◌<◌, ◌^◌, ◌∙◌, ℕ, max, Bool, true, false, List, Option, Some, None}
-use Rattle.std.proofs.Common.{refl, subst, sym}
+use Rattle.std.proofs.Common.{arith, ◌≡◌, ◌<◌, ◌^◌, ◌∙◌, ℕ, max, Bool, true, false, List, Option, Some, None, refl, subst, sym}
 use Rattle.std.specs.Int.{w16, from_le_bytes, to_le_bytes}
 use Rattle.fs_queue.specs.Queue.{has_bit}
 use Rattle.fs_chain.specs.Numbers.{chain_error_number}
@@ -18,6 +17,7 @@ use Rattle.fs_chain_c.specs.Notifying.{NotifyIsACheck, StoresAWish}
 use Rattle.fs_chain_c.specs.Pushing.{EndsHandlePush}
 use Rattle.fs_chain_c.specs.Queues.{IsQueueState}
 
+-- a refusal has a number
 pub no_error : (e : ChainError) → 0 ≡ chain_error_number e → ⊥
 no_error error.OutOfMemory is = cc
 no_error error.BadArgument is = cc

@@ -1,37 +1,28 @@
 -- A place for a table, and the parts of a box of an `IotlbPlace`, by value: what they own is taken out, and put in. Assumes `Logic`.
-use Rattle.std.specs.Prelude.{Option, Some, None, is_some, if◌then◌else◌}
 use Rattle.std.specs.Global.{Global}
-use Rattle.std.proofs.Common.{lit<}
-use Rattle.std.proofs.alloc.Calls.{Al, Fits, α, handle_tells}
-use Rattle.std.specs.Box.Ownership.{box_owns}
+use Rattle.std.proofs.Common.{Option, Some, None, is_some, if◌then◌else◌}
+use Rattle.std.proofs.alloc.Calls.{Fits, α, handle_tells}
 use Rattle.std_heap.specs.contracts.Global as Heap
-use Rattle.std_heap.specs.contracts.GlobalAllocator.TheImpl.{ghosts, dict}
-use Rattle.std_heap.proofs.Global.TheLaws as heap
 use Rattle.fs_chain.specs.contracts.iotlb_place.IotlbPlace as place
 use Rattle.fs_chain_c.specs.contracts.iotlb_handle.FsIotlb as chain
-use Rattle.fs_chain_c.specs.contracts.parts.BoxParts as parts
 use Rattle.fs_chain_c.specs.Owned.{iotlb_owns}
 use Prim.Native.Nat.{ℕ, ◌<◌, ◌^◌}
 use mathlib.Core.Path.{◌≡◌, refl, subst}
-use mathlib.Core.Bool.{Bool, true, false, ◌&&◌}
+use mathlib.Core.Bool.{true, ◌&&◌}
 use mathlib.Core.List.{List, [], ◌∷◌, ◌++◌}
 use lib.Dec.{T}
 use seplogic.Ra.Ura.{Ura}
-use mir.Syntax.{impl, tnil, dnil, ty_ptr, w32}
+use mir.Syntax.{ty_ptr, w32}
 use mir.Val.{Val, vint, vstruct, vcons, vnil, of_list, bits, has_ty, WT}
 use types.Logic.{Logic}
 use types.Kit.{Item, Goal, Seq, Step, step, ‵, ◌$◌, move, drop, fsplit, fjoin, fpick, fpack, feq_l, feq_i, flt_i}
-use denote.Builtin.{RawPtr}
 use denote.RattleType.{RattleType, Valss}
-use denote.RawPtr.{Ptr, block_ptr, null_ptr, ptr_val}
+use denote.RawPtr.{Ptr, ptr_val}
 use denote.Steps.{nothing}
 use denote.Struct.Owning.{fields, shape}
 use denote.Struct.Struct.{within}
 use denote.Struct.Values.{intos}
-
--- the heap's allocator
-abbrev pub al : Al
-al = record { row = Heap.the_row; laws = heap.the_row_laws; g = ghosts; d = dict; drops = impl [] tnil dnil }
+use Rattle.fs_chain_c.proofs.BoxValues.{al, both_tt, good_ptr, owns_box}
 
 abbrev pub Work : RattleType
 Work = place.the_row
@@ -39,58 +30,15 @@ Work = place.the_row
 abbrev pub Chain : RattleType
 Chain = chain.the_row
 
-abbrev pub Boxed : RattleType
-Boxed = parts.the_row Work Heap.the_row ghosts
-
--- what is owned of a box beside its pointer and its handle
-abbrev pub owns_box : Global → Ptr → Work.Denot → base.Fml.Fml
-owns_box a p x = box_owns (ghosts.dealloc_token a) Work p x
-
--- their machine values
-abbrev pub two : Ptr → Val → Val
-two p h = vstruct (vcons (ptr_val p) (vcons h vnil))
-
+-- its machine value, which has its type
 abbrev pub three : Ptr → Val → ℕ → Val
 three p h n = vstruct (vcons (ptr_val p) (vcons h (vcons (vint w32 n) vnil)))
-
--- they have their types
-pub good_ptr : (p : Ptr) → T (has_ty ty_ptr (ptr_val p)) × WT (ptr_val p)
-good_ptr (block_ptr b o) = (tt, tt)
-good_ptr null_ptr = (tt, record { fits = lit< tt })
-
-both_tt : (x y : Bool) → T x → T y → T (x && (y && true))
-both_tt true true s t = tt
-both_tt true false s t = absurd t
-both_tt false y s t = absurd s
-
-pub two_good : (p : Ptr) (h : Val) → Fits al h → T (has_ty ty_ptr (ptr_val p) && (has_ty (α al) h && true)) × WT (two p h)
-two_good p h fits = (both_tt _ _ (good_ptr p).0 fits.0, ((good_ptr p).1, (fits.1, tt)))
 
 pub three_good : (p : Ptr) (h : Val) (n : ℕ) → Fits al h → n < 2 ^ bits w32 →
     T (has_ty ty_ptr (ptr_val p) && (has_ty (α al) h && true)) × WT (three p h n)
 three_good p h n fits low = (both_tt _ _ (good_ptr p).0 fits.0, ((good_ptr p).1, (fits.1, (record { fits = low }, tt))))
 
 module _ {M : Type 1} {𝓤 : Ura M} {𝓛 : Logic 𝓤} {K : Type 0} {Γ : List (Item 𝓤)} {G : Goal 𝓤 𝓛.H} where
-  -- parts: [the box; the handle]
-  pub parts_out : K → (d : Boxed.Denot) (vs : List Val)
-      → ((h : Val) → vs ≡ two d.ptr h ∷ [] → Fits al h
-      → Seq K 𝓛 (‵ (owns_box d.alloc d.ptr d.value) ∷ ‵ ((Heap.the_row).own_val d.alloc (h ∷ [])) ∷ Γ) G)
-      → Seq K 𝓛 (‵ (Boxed.own_val d vs) ∷ Γ) G
-  parts_out t d vs k =
-      fsplit t $ fpick t (λ vss. fsplit t $ feq_l t (λ ev.
-      fsplit t $ feq_l t (λ ep. fsplit t $ handle_tells al t d.alloc vss.1.0 (λ h ea fits. move t (1 ∷ []) $ drop t $ move t (1 ∷ []) $
-      k h (subst (λ (ws : List Val). vs ≡ vstruct (of_list (ptr_val d.ptr ∷ (ws ++ []))) ∷ []) ea
-      (subst (λ (ps : List Val). vs ≡ vstruct (of_list (ps ++ (vss.1.0 ++ []))) ∷ []) ep ev)) fits))))
-
-  pub parts_in : K → (a : Global) (p : Ptr) (x : Work.Denot) (h : Val)
-      → Step K 𝓛 (‵ (Boxed.own_val (record { ptr = p; alloc = a; value = x }) (two p h ∷ [])) ∷ Γ) G
-      (‵ (owns_box a p x) ∷ ‵ ((Heap.the_row).own_val a (h ∷ [])) ∷ Γ) G
-  parts_in t a p x h = step (λ s.
-      nothing t $ move t (2 ∷ 0 ∷ []) $ fjoin t $ feq_i t (List Val) (ptr_val p ∷ []) (ptr_val p ∷ []) refl $ fjoin t $ feq_i t (List Val)
-      (two p h ∷ []) (two p h ∷ []) refl $ fjoin t $
-      fpack t (Valss (RawPtr ∷ Heap.the_row ∷ [])) (within (shape (parts.the_type Work Heap.the_row ghosts)) (p, (a, tt)) (two p h ∷ []))
-      (ptr_val p ∷ [], (h ∷ [], tt)) $ fjoin t $ s)
-
   -- a handle: [what it owns; the allocator's handle]
   pub chain_out : K → (d : Chain.Denot) (vs : List Val)
       → ((h : Val) → vs ≡ three d.at h d.full ∷ [] → Fits al h
@@ -117,12 +65,12 @@ module _ {M : Type 1} {𝓤 : Ura M} {𝓛 : Logic 𝓤} {K : Type 0} {Γ : List
 
   full_or_not : K → (a : Global) (p : Ptr) (value : Option Work.Denot) (full : ℕ) → full ≡ (if is_some value then 1 else 0)
       → (value ≡ None → full ≡ 0 → Seq K 𝓛 Γ G)
-      → ((x : Work.Denot) → value ≡ Some x → full ≡ 1 → Seq K 𝓛 (‵ (owns_box a p x) ∷ Γ) G) → Seq K 𝓛 (‵ (iotlb_owns a p value) ∷ Γ) G
+      → ((x : Work.Denot) → value ≡ Some x → full ≡ 1 → Seq K 𝓛 (‵ (owns_box Work a p x) ∷ Γ) G) → Seq K 𝓛 (‵ (iotlb_owns a p value) ∷ Γ) G
   full_or_not t a p None full known none some = drop t $ none refl known
   full_or_not t a p (Some x) full known none some = some x refl known
 
   -- it owns a box, or nothing, and its number says which
   pub either : K → (d : Chain.Denot) → (d.value ≡ None → d.full ≡ 0 → Seq K 𝓛 Γ G)
-      → ((x : Work.Denot) → d.value ≡ Some x → d.full ≡ 1 → Seq K 𝓛 (‵ (owns_box d.alloc d.at x) ∷ Γ) G)
+      → ((x : Work.Denot) → d.value ≡ Some x → d.full ≡ 1 → Seq K 𝓛 (‵ (owns_box Work d.alloc d.at x) ∷ Γ) G)
       → Seq K 𝓛 (‵ (iotlb_owns d.alloc d.at d.value) ∷ Γ) G
   either t d none some = full_or_not t d.alloc d.at d.value d.full d.known none some

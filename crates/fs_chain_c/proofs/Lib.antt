@@ -1,6 +1,7 @@
 pub mod CalledLemmas
 pub mod CalledLogs
 pub mod CalledMoves
+mod BoxValues
 mod ChainValues
 mod IotlbValues
 pub mod IotlbLemmas

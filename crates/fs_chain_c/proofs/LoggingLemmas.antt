@@ -1,7 +1,6 @@
 -- The guest addresses that C gets for a migration's log.
 use Rattle.std.proofs.Common.{arith, ◌≡◌, inl, inr, ℕ, zero, suc, ◌+◌, ◌-◌, ◌%◌, ◌^◌, ◌<◌, ◌≤◌, ◌==◌, ◌&&◌, min, Bool, true, false, not}
-use Rattle.std.proofs.Common.{List, []}
-use Rattle.std.proofs.Common.{◌∷◌, ◌++◌, drop, length, take, take-append-drop, Some, None, refl, subst, sym, ap, ◌∙◌}
+use Rattle.std.proofs.Common.{List, [], ◌∷◌, ◌++◌, drop, length, take, take-append-drop, Some, None, refl, subst, sym, ap, ◌∙◌}
 use Rattle.std.proofs.Common.{if◌then◌else◌}
 use Rattle.std.specs.List.{AllByRecursion}
 use Rattle.std.proofs.lemmas.Bool.{and_parts, eqb-true}
@@ -12,11 +11,9 @@ use Rattle.fs_queue.specs.Queue.{Queue, element_at, index_at}
 use Rattle.fs_queue.specs.Returning.{Store}
 use Rattle.fs_queue.specs.WalkingView.{at_position}
 use Rattle.fs_queue.specs.declared.layout.QueueLayout.{QueueLayout}
-use Rattle.fs_chain.specs.Numbers.{chain_error_number}
 use Rattle.fs_chain.specs.Orders.{return_error}
 use Rattle.fs_chain.specs.Pushes.{IfHasReply, PushesBy}
 use Rattle.fs_chain.specs.Queues.{at_return, in_flight, is_laid_out, is_in_flight_of}
-use Rattle.fs_chain.specs.declared.error.ChainError.{ChainError}
 use Rattle.fs_chain.specs.declared.error.ChainError.TheVariants as error
 use Rattle.fs_chain.specs.declared.pushing.PushStores.{PushStores}
 use Rattle.fs_chain.specs.declared.queue.QueueState.{QueueState}
@@ -24,6 +21,7 @@ use Rattle.fs_chain.specs.declared.state.ChainState as state
 use Rattle.fs_chain.specs.declared.state.ChainState.TheVariants as at
 use Rattle.fs_chain_c.specs.Logging.{PushReportsAddresses, RangesAreRoom, addresses_in, reply_buffer}
 use Rattle.fs_chain_c.specs.Ranges.{range_bytes}
+use Rattle.fs_chain_c.proofs.CalledLemmas.{no_error}
 
 -- ---- ranges
 
@@ -83,14 +81,6 @@ ranges b from most (r ∷ rs) all are =
 
 -- ---- element and index
 
-no_error : (e : ChainError) → 0 ≡ chain_error_number e → ⊥
-no_error error.OutOfMemory is = cc
-no_error error.BadArgument is = cc
-no_error e is = cc
-
-not_mapped : ◌≡◌ {A = ℕ} 0 77 → ⊥
-not_mapped is = cc
-
 same_layout : (a b : QueueLayout) (position : ℕ) → is_laid_out a b ≡ true → at_position a position ≡ at_position b position
 same_layout a b position is =
     let one = and_parts (a.size == b.size && a.desc == b.desc && a.avail == b.avail) (a.used == b.used) is in
@@ -141,7 +131,7 @@ pushes b b' q q' front front' reported (inr is) = elim is.3 [
       let s = so.0 in
       let there = pushed_there b.state k (length front) s done.0 so.2 in
       let mapped : (reported.element_guest ≡ s.used.head.address) × (reported.index_guest ≡ s.used.index.address) =
-      elim so.4 [ inl here ↦ (here.1.8, here.1.9) | inr lost ↦ absurd (not_mapped lost.0) ] in
+      elim so.4 [ inl here ↦ (here.1.8, here.1.9) | inr lost ↦ absurd (cc lost.0) ] in
       (k, is.2, mapped.0 ∙ there.0, mapped.1 ∙ there.1)
   | inr why ↦ absurd (no_error why.0 why.3)
 ]

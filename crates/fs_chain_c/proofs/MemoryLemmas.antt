@@ -1,8 +1,7 @@
 -- Why regions in any order are no memory, by those in ascending order; and which neighbours stand apart.
 use Rattle.std.proofs.Common.{◌≡◌, ◌≤◌, ◌<◌, ◌+◌, ◌-◌, ◌∙◌, ℕ, length, List, [], ◌∷◌, All, Bool, false, true, if◌then◌else◌, ◌&&◌, nat_lt}
-use Rattle.std.proofs.Common.{get_or}
-use Rattle.std.proofs.Common.{Option, Some, None, Result, Ok, Err, IfErr, IfOk, IsPermutation, inr, map, take, drop, ◌++◌, ap, subst, refl}
-use Rattle.std.proofs.Common.{sym, arith}
+use Rattle.std.proofs.Common.{get_or, Option, Some, None, Result, Ok, Err, IfErr, IfOk, IsPermutation, inr, map, take, drop, ◌++◌, ap}
+use Rattle.std.proofs.Common.{subst, refl, sym, arith}
 use Rattle.std.proofs.lemmas.Bool.Decides.{nat_tests}
 use Rattle.std.proofs.lemmas.List.{append-nil, drop_all, get_or_default, length-map, take_all}
 use Rattle.std.specs.List.Sorted.{IsNonDecreasingBy}

@@ -1,7 +1,6 @@
 -- Records that C saves and restores, by the core's queues.
 use Rattle.std.proofs.Common.{arith, ◌≡◌, ℕ, suc, ◌+◌, ◌-◌, ◌%◌, ◌^◌, ◌<◌, ◌≤◌, ◌==◌, max, All, Bool, true, false, not, List, [], ◌∷◌, ◌++◌}
-use Rattle.std.proofs.Common.{drop, length, map, take, Option, Some, None, refl, subst, sym, ap, ◌∙◌, if◌then◌else◌}
-use Rattle.std.specs.Prelude.{IsTrue, is_some}
+use Rattle.std.proofs.Common.{IsTrue, is_some, drop, length, map, take, Option, Some, None, refl, subst, sym, ap, ◌∙◌, if◌then◌else◌}
 use Rattle.std.specs.List.{AllByRecursion}
 use Rattle.std.proofs.lemmas.Bool.Decides.{nat_tests}
 use Rattle.std.proofs.lemmas.List.{length-map}
@@ -15,7 +14,6 @@ use Rattle.fs_queue.specs.Numbers.{queue_number}
 use Rattle.fs_record.specs.Numbers.{restore_error_number}
 use Rattle.fs_record.specs.Record.{IsRecord, IsSavedQueue, Second, Version}
 use Rattle.fs_record.proofs.ReadingLemmas.{one_reading}
-use Rattle.fs_chain.specs.Numbers.{chain_error_number}
 use Rattle.fs_chain.specs.declared.error.ChainError.{ChainError}
 use Rattle.fs_chain.specs.declared.error.ChainError.TheVariants as error
 use Rattle.fs_chain.specs.declared.queue.QueueState.{QueueState}
@@ -24,9 +22,9 @@ use Rattle.fs_chain_c.specs.declared.queue.FsQueue.{FsQueue}
 use Rattle.fs_chain_c.specs.Moving.{AreQueueStates, HasItsWidths, HasNoneInFlight, HasValidMaximum, MovesByRecord, RestoresARecord}
 use Rattle.fs_chain_c.specs.Moving.{SavesARecord, recorded}
 use Rattle.fs_chain_c.specs.Queues.{IsQueue, IsQueueState, stop_number}
-use Rattle.fs_chain_c.specs.Records.{HasNoneOut, Restored, HasRecord, TooFewQueues, NoRecord, ReadsSo}
-use Rattle.fs_chain_c.specs.Records.{RestoreOutcome, SavesSo}
-use Rattle.fs_chain_c.specs.Records.{bytes_of, numbers_over, queue_of, read_status, restored_over, saved_status}
+use Rattle.fs_chain_c.specs.Records.{HasNoneOut, Restored, HasRecord, TooFewQueues, NoRecord, ReadsSo, RestoreOutcome, SavesSo, bytes_of}
+use Rattle.fs_chain_c.specs.Records.{numbers_over, queue_of, read_status, restored_over, saved_status}
+use Rattle.fs_chain_c.proofs.CalledLemmas.{no_error}
 
 -- ---- a queue's numbers, and the core's queue
 
@@ -52,11 +50,6 @@ all_recorded _ _ are = absurd are
 
 -- ---- saving
 
-no_error : (e : ChainError) → 0 ≡ chain_error_number e → ⊥
-no_error error.OutOfMemory is = cc
-no_error error.BadArgument is = cc
-no_error e is = cc
-
 saved_so : (d : FsDevice) (qs : List FsQueue) (buffer buffer' : List ℕ) (len : ℕ) (how : Option ChainError) → 0 ≡ saved_status how
     → SavesSo d qs buffer how len buffer' → SavesSo d qs buffer None len buffer'
 saved_so d qs buffer buffer' len None is so = so
@@ -72,10 +65,7 @@ all_even (q ∷ qs) (k ∷ ks) bits none are =
     let at = one_position q.next_avail q.next_used bits.0.1 bits.0.2 (All-head HasNoneOut q qs none) in
     let next_avail = ap (λ (x : FsQueue). x.next_avail) are.0.numbers in
     let next_used = ap (λ (x : FsQueue). x.next_used) are.0.numbers in (
-      (
-        next_used ∙ at ∙ sym next_avail,
-        subst (λ (n : ℕ). n < 2 ^ 16) (sym next_avail) bits.0.1,
-      ),
+      (next_used ∙ at ∙ sym next_avail, subst (λ (n : ℕ). n < 2 ^ 16) (sym next_avail) bits.0.1),
       all_even qs ks bits.1 (All-tail HasNoneOut q qs none) are.1,
     )
 all_even _ _ bits none are = absurd are
@@ -102,12 +92,7 @@ saves d qs ks buffer buffer' len saved bits are =
     let made : IsRecord (bytes_of d qs) v d.options queues = (
       refl,
       (page_size_low d.page_size can.0.0, limit_low d.limit can.0.2),
-      (
-        can.1,
-        subst (λ (n : ℕ). 1 ≤ n) (sym count) can.2,
-        subst (λ (n : ℕ). n ≤ 64) (sym count) can.3,
-        all_saved qs can.4 bits,
-      ),
+      (can.1, subst (λ (n : ℕ). 1 ≤ n) (sym count) can.2, subst (λ (n : ℕ). n ≤ 64) (sym count) can.3, all_saved qs can.4 bits),
     ) in (
       bytes_of d qs,
       v,
@@ -166,10 +151,7 @@ go_on (old ∷ olds) (q ∷ qs) (k ∷ ks) few all are =
     let rest = go_on olds qs ks (omega (arith, few)) (All-tail IsSavedQueue q qs all) are.1 in (
       ap (λ (x : Queue). x ∷ map recorded ks) (sym (recorded_is (numbers_over old q) k one) ∙ over_back old q)
           ∙ ap (λ (l : List Queue). q ∷ l) rest.0,
-      (
-        (next_used ∙ sym next_avail, subst (λ (n : ℕ). n < 2 ^ 16) (sym next_avail) low),
-        rest.1,
-      ),
+      ((next_used ∙ sym next_avail, subst (λ (n : ℕ). n < 2 ^ 16) (sym next_avail) low), rest.1),
       (
         (
           subst (λ (n : ℕ). 1 ≤ n) (sym most) (one_at_least old.max_in_flight),

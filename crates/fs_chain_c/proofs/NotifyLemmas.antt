@@ -1,15 +1,12 @@
 -- What C is told of notifications.
-use Rattle.std.proofs.Common.{◌≡◌, inl, inr, ℕ, ◌^◌, ◌<◌, ◌==◌, ◌||◌, Bool, true, false, List, Option, Some, refl, sym, ap}
-use Rattle.std.proofs.Common.{subst, ◌∙◌}
+use Rattle.std.proofs.Common.{◌≡◌, inl, inr, ℕ, ◌^◌, ◌<◌, ◌==◌, ◌||◌, Bool, true, false, List, Option, Some, refl, sym, ap, subst, ◌∙◌}
 use Rattle.std.specs.Int.{w16, to_le_bytes, from_le_bytes}
 use Rattle.std.proofs.lemmas.Nat.{from_le_bytes-to_le_bytes_2}
 use Rattle.fs_queue.specs.Returning.{Store}
 use Rattle.vm_iotlb.specs.declared.permissions.Permissions.TheVariants.{Write}
 use Rattle.fs_regions.specs.Places.{Mapped}
-use Rattle.fs_chain.specs.declared.error.ChainError.{ChainError}
 use Rattle.fs_chain.specs.declared.error.ChainError.TheVariants as error
 use Rattle.fs_chain.specs.Events.{notifies_of}
-use Rattle.fs_chain.specs.Numbers.{chain_error_number}
 use Rattle.notify.specs.Threads.{ThreadedQueue, Wishes, WishIsThere, after_act}
 use Rattle.fs_notify.proofs.Returns as givers
 use Rattle.fs_notify.proofs.Wishes as takers
@@ -19,24 +16,16 @@ use Rattle.fs_chain_c.specs.Notifications.{ReportsStore}
 use Rattle.fs_chain_c.specs.Notifying.{NotifyIsACheck, StoresAWish}
 use Rattle.fs_chain_c.specs.Queues.{flag}
 use Rattle.fs_chain_c.specs.Pushing.{StandsHere}
-
--- a refusal has a number
-refused : (e : ChainError) → 0 ≡ chain_error_number e → ⊥
-refused error.OutOfMemory is = cc
-refused error.BadArgument is = cc
-refused e is = cc
+use Rattle.fs_chain_c.proofs.CalledLemmas.{no_error}
 
 -- a store that is told without an error
 pub reported_store : (regions : Mapped) (store : Store) (reported : FsStore) → ReportsStore regions (Some store) reported 0
     → StandsHere regions Write store.address 2 reported.at × (store.bytes ≡ to_le_bytes w16 reported.value) × (reported.len ≡ 2)
 reported_store regions store reported (inl done) = (done.1, done.2, done.3)
-reported_store regions store reported (inr lost) = absurd (never lost.0)
-  where
-    never : ◌≡◌ {A = ℕ} 0 77 → ⊥
-    never is = cc
+reported_store regions store reported (inr lost) = absurd (cc lost.0)
 
 pub wishes : StoresAWish
-wishes b q reported (inl none) = absurd (refused error.BadArgument none.1)
+wishes b q reported (inl none) = absurd (no_error error.BadArgument none.1)
 wishes b q reported (inr is) = (
   is.1,
   is.2,
@@ -58,7 +47,7 @@ flag_is true = refl
 flag_is false = refl
 
 pub checks : NotifyIsACheck
-checks b b' q q' seen notify (inl none) fits = absurd (refused error.BadArgument none.2.0)
+checks b b' q q' seen notify (inl none) fits = absurd (no_error error.BadArgument none.2.0)
 checks b b' q q' seen notify (inr is) fits = elim is.3 [
   | inl ended ↦ (
     is.1,
@@ -68,5 +57,5 @@ checks b b' q q' seen notify (inr is) fits = elim is.3 [
         let check = givers.checks is.1 (to_le_bytes w16 seen) u small (subst (λ (n : ℕ). n < 2 ^ 16) (sym same) fits) at one shows in
         check ∙ ap (λ (n : Bool). u.owes || n) (sym (ap (λ (n : ℕ). n == 1) ended.2 ∙ flag_is (notifies_of is.1 (to_le_bytes w16 seen)))),
   )
-  | inr why ↦ absurd (refused why.0 why.3.0)
+  | inr why ↦ absurd (no_error why.0 why.3.0)
 ]

@@ -1,34 +1,25 @@
 -- One queue of a record more over some; and queues that fit a record.
-use Rattle.std.proofs.Common.{◌≡◌, ◌∙◌, ℕ, zero, suc, ◌+◌, List, [], ◌∷◌, get_or, take, slice_get, slice_set, Option, Some, None, refl, ap}
-use Rattle.std.proofs.Common.{sym, subst, arith, ◌⊎◌, inl, inr, ◌≤◌}
-use Rattle.std.specs.Prelude.{◌<◌, length, unwrap_or}
+use Rattle.std.proofs.Common.{[], ◌≡◌, ◌∙◌, ℕ, zero, suc, ◌+◌, List, ◌∷◌, get_or, take, slice_get, slice_set, Some, refl, ap}
+use Rattle.std.proofs.Common.{sym, subst, arith, inl, inr, ◌≤◌}
+use Rattle.std.specs.Prelude.{◌<◌, length}
 use Rattle.std.proofs.lemmas.Bool.{cases_lt}
 use Rattle.std.proofs.lemmas.Option.{slice_get-get_or, slice_get_past, slice_get_read}
 use Rattle.fs_queue.specs.Queue.{Queue}
+use Rattle.live_machine.proofs.Queues.{same_some}
 use Rattle.fs_chain_c.specs.declared.queue.FsQueue.{FsQueue}
 use Rattle.fs_chain_c.specs.Queues.{IsQueue}
 use Rattle.fs_chain_c.specs.Records.{FitRecord, numbers_over, restored_over}
 
-abbrev IsThere : {A : Type 0} → Option A → Type 0
-IsThere (Some x) = Unit {0}
-IsThere None = ⊥
-
-is_old : (x y : FsQueue) → Some x ≡ Some y → x ≡ y
-is_old x y e = ap (λ (o : Option FsQueue). unwrap_or o x) e
-
-is_queue : (x y : Queue) → Some x ≡ Some y → x ≡ y
-is_queue x y e = ap (λ (o : Option Queue). unwrap_or o x) e
-
 over_suc : (olds : List FsQueue) (qs : List Queue) (k : ℕ) (old : FsQueue) (q : Queue)
     → slice_get (restored_over olds (take k qs)) k ≡ Some old → slice_get qs k ≡ Some q
     → slice_set (restored_over olds (take k qs)) k (numbers_over old q) ≡ restored_over olds (take (suc k) qs)
-over_suc olds [] k old q was is = absurd (subst IsThere (sym is) tt)
-over_suc [] (p ∷ qs) zero old q was is = absurd (subst IsThere (sym was) tt)
-over_suc [] (p ∷ qs) (suc k) old q was is = absurd (subst IsThere (sym was) tt)
 over_suc (o ∷ olds) (p ∷ qs) zero old q was is =
-    ap (λ (x : FsQueue). numbers_over x q ∷ olds) (sym (is_old o old was))
-    ∙ ap (λ (x : Queue). numbers_over o x ∷ olds) (sym (is_queue p q is))
+    ap (λ (x : FsQueue). numbers_over x q ∷ olds) (sym (same_some o old was))
+    ∙ ap (λ (x : Queue). numbers_over o x ∷ olds) (sym (same_some p q is))
 over_suc (o ∷ olds) (p ∷ qs) (suc k) old q was is = ap (λ (l : List FsQueue). numbers_over o p ∷ l) (over_suc olds qs k old q was is)
+over_suc olds [] k old q was is = absurd (cc)
+over_suc [] (p ∷ qs) zero old q was is = absurd (cc)
+over_suc [] (p ∷ qs) (suc k) old q was is = absurd (cc)
 
 -- it stands over the next of some queues
 pub over_next : (olds now : List FsQueue) (qs : List Queue) (k : ℕ) (old fresh : FsQueue) (q : Queue) → now ≡ restored_over olds (take k qs)
@@ -60,8 +51,8 @@ next_fits olds qs k old fresh q low there is_q is_fresh fits before j older queu
       let same : j ≡ k = omega (arith, less, last) in
       let was' : slice_get olds k ≡ Some older = subst (λ (n : ℕ). slice_get olds n ≡ Some older) same was in
       let is' : slice_get qs k ≡ Some queue = subst (λ (n : ℕ). slice_get qs n ≡ Some queue) same is in
-      let old_is : get_or olds k old ≡ older = is_old (get_or olds k old) older (sym (slice_get-get_or olds k old low) ∙ was') in
-      let queue_is : q ≡ queue = is_queue q queue (sym (slice_get_read qs (length qs) k q refl there is_q) ∙ is') in
+      let old_is : get_or olds k old ≡ older = same_some (get_or olds k old) older (sym (slice_get-get_or olds k old low) ∙ was') in
+      let queue_is : q ≡ queue = same_some q queue (sym (slice_get_read qs (length qs) k q refl there is_q) ∙ is') in
       subst IsQueue
       (is_fresh ∙ ap (λ (x : FsQueue). numbers_over x q) old_is ∙ ap (λ (x : Queue). numbers_over older x) queue_is) fits
 ]
@@ -69,7 +60,7 @@ next_fits olds qs k old fresh q low there is_q is_fresh fits before j older queu
 pub all_fit : (olds : List FsQueue) (qs : List Queue) (n : ℕ) → length qs ≤ n → FitBefore olds qs n → FitRecord olds qs
 all_fit olds qs n few fit k old q was is = elim (cases_lt k (length qs)) [
   | inl low ↦ fit k old q (omega (arith, low, few)) was is
-  | inr past ↦ absurd (subst IsThere (sym is ∙ slice_get_past qs k past) tt)
+  | inr past ↦ absurd (cc (sym is ∙ slice_get_past qs k past))
 ]
 
 pub one_unfit : (olds : List FsQueue) (qs : List Queue) (k : ℕ) (old fresh : FsQueue) (q : Queue)

@@ -32,10 +32,9 @@ ranges_next w from most ss s at left are here sum is =
 
 put_suc : (found old : List FsRange) (s : FsRange) → length found < length old
     → slice_set (found ++ drop (length found) old) (length found) s ≡ (found ++ s ∷ []) ++ drop (suc (length found)) old
-put_suc [] [] s low = absurd (omega (arith, low))
 put_suc [] (y ∷ old) s low = refl
-put_suc (x ∷ found) [] s low = absurd (omega (arith, low))
 put_suc (x ∷ found) (y ∷ old) s low = ap (λ (l : List FsRange). x ∷ l) (put_suc found old s (omega (arith, low)))
+put_suc _ [] s low = absurd (omega (arith, low))
 
 -- it stands over the next of some windows
 pub put_next : (found old now : List FsRange) (k : ℕ) (s : FsRange) → length found ≡ k → now ≡ found ++ drop k old → k < length old

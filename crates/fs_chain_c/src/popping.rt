@@ -3,8 +3,7 @@
 ghost use Rattle.std.specs.Prelude.{◌≡◌, ◌≤◌};
 ghost use Rattle.fs_regions.specs.Ahead.{loads_ahead};
 ghost use Rattle.fs_chain_c.specs.Popping.{ReportsLoad, ReportsWanted, ReportsOutcome, PopsHandle};
-ghost use Rattle.fs_chain_c.specs.Popping.{PopsHandleAhead};
-ghost use Rattle.fs_chain_c.specs.Popping.{host_at, no_step};
+ghost use Rattle.fs_chain_c.specs.Popping.{PopsHandleAhead, host_at, no_step};
 
 use crate::access::access_number;
 use crate::queue::FsQueue;

@@ -3,8 +3,7 @@
 ghost use Rattle.std.specs.Prelude.{◌≡◌, ◌<◌, None, IfSome};
 ghost use Rattle.fs_chain_c.specs.Pushing.{DropsHandleChain, DropsPreserved, EndsHandlePush, EndsPreserved};
 ghost use Rattle.fs_chain_c.specs.Pushing.{HaveNoPlaces, IsNotHere, PushesHandle, ReturnsPreserved};
-ghost use Rattle.fs_chain_c.specs.Pushing.{StandsHere};
-ghost use Rattle.fs_chain_c.specs.Pushing.{ReportsStores, no_stores};
+ghost use Rattle.fs_chain_c.specs.Pushing.{StandsHere, ReportsStores, no_stores};
 
 use crate::popping::NOT_MAPPED;
 use crate::queue::FsQueue;

@@ -18,17 +18,7 @@ returns-in-Ok c =
     let ticket = ap (λ (n : ℕ). record fields { ticket = n }) (c.serial-ticket.ensures ∙ c.decode.ensures.same.0.2) in
     inr (inr (
       search rules,
-      (
-        s,
-        search rules,
-        asked,
-        c.in-Ok.reported,
-        asks,
-        fields,
-        c.tell-status.ensures,
-        ticket,
-        c.in-Ok.ensures.places,
-      ),
+      (s, search rules, asked, c.in-Ok.reported, asks, fields, c.tell-status.ensures, ticket, c.in-Ok.ensures.places),
     ))
 
 pub returns-in-Err : goal.returns-in-Err

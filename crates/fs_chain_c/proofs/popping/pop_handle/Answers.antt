@@ -11,13 +11,5 @@ returns-in-Err-clause-pops c =
       search rules,
       c.in-Some.preserved,
       search rules,
-      inr (
-        c.in-Err.error,
-        search rules,
-        search rules,
-        search rules,
-        search rules,
-        search
-            rules,
-      ),
+      inr (c.in-Err.error, search rules, search rules, search rules, search rules, search rules),
     )

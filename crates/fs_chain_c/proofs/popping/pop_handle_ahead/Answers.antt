@@ -7,14 +7,7 @@ returns-in-Ok-clause-pops c =
       search rules,
       c.in-Some.preserved,
       search rules,
-      inl (
-        c.in-Ok.outcome,
-        c.pop_ahead.new.queue,
-        search rules,
-        search rules,
-        search
-            rules,
-      ),
+      inl (c.in-Ok.outcome, c.pop_ahead.new.queue, search rules, search rules, search rules),
     )
 
 pub returns-in-Err-clause-pops : goal.returns-in-Err-clause-pops
@@ -23,13 +16,5 @@ returns-in-Err-clause-pops c =
       search rules,
       c.in-Some.preserved,
       search rules,
-      inr (
-        c.in-Err.error,
-        search rules,
-        search rules,
-        search rules,
-        search rules,
-        search
-            rules,
-      ),
+      inr (c.in-Err.error, search rules, search rules, search rules, search rules, search rules),
     )

@@ -3,7 +3,8 @@ use Rattle.std.specs.Prelude.{None}
 use Rattle.std.proofs.alloc.Calls.{handle_tells}
 use Rattle.std.proofs.raw_atomic.Walks.{proved_at}
 use Rattle.std_heap.specs.contracts.Global as Heap
-use Rattle.fs_chain_c.proofs.ChainValues.{Chain, al, chain_in, two, two_good}
+use Rattle.fs_chain_c.proofs.ChainValues.{Chain, chain_in}
+use Rattle.fs_chain_c.proofs.BoxValues.{al, two, two_good}
 use Rattle.fs_chain_c.specs.contracts.handle.ChainBox.empty.{ended, clauses}
 use Rattle.fs_chain_c.specs.contracts.handle.ChainBox.empty.Key.{name as #self}
 use Rattle.fs_chain_c.proofs.handle.ChainBox.empty.Statement.{statement}

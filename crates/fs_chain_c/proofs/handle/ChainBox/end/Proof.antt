@@ -1,7 +1,8 @@
 -- `end` leaves a pointer that owns nothing.
 use Rattle.std.specs.Prelude.{None}
 use Rattle.std.proofs.raw_atomic.Walks.{proved_at}
-use Rattle.fs_chain_c.proofs.ChainValues.{Chain, chain_out, two, two_good}
+use Rattle.fs_chain_c.proofs.ChainValues.{Chain, chain_out}
+use Rattle.fs_chain_c.proofs.BoxValues.{two, two_good}
 use Rattle.fs_chain_c.specs.contracts.handle.ChainBox.end.{ended, clauses}
 use Rattle.fs_chain_c.specs.contracts.handle.ChainBox.end.Key.{name as #self}
 use Rattle.fs_chain_c.proofs.handle.ChainBox.end.Statement.{statement}
@@ -12,7 +13,7 @@ use mir.Val.{Val, vunit}
 use base.Logic.{ent}
 use base.Fml.{ftrue, fsep}
 use prog.Wp.{WpFn}
-use types.Kit.{Item, ‵, raw, ◌⊛◌, ◌$◌, ◌∵◌, !, qed, by, move, keep, drop, join, split, fsplit, fjoin, feq_i, frame, suffices, done}
+use types.Kit.{‵, raw, ◌⊛◌, ◌$◌, ◌∵◌, !, qed, by, move, keep, drop, join, split, fsplit, fjoin, feq_i, frame, suffices, done}
 use types.Run.{of_opd, unit_lit, returns, enter}
 use types.ByLocal.{alloc_all, pass_all, free_all, look_at, sets}
 use contract.Monad.{fact}

@@ -2,7 +2,8 @@
 use Rattle.std.specs.Prelude.{is_some, true}
 use Rattle.std.proofs.raw_atomic.Walks.{proved_at}
 use Rattle.std_heap.specs.contracts.Global as Heap
-use Rattle.fs_chain_c.proofs.ChainValues.{Boxed, Chain, chain_out, full, good_ptr, owns_box, parts_in, two, two_good}
+use Rattle.fs_chain_c.proofs.ChainValues.{Chain, Work, chain_out, full}
+use Rattle.fs_chain_c.proofs.BoxValues.{Boxed, good_ptr, owns_box, parts_in, two, two_good}
 use Rattle.fs_chain_c.specs.contracts.handle.ChainBox.into_parts.{ended, clauses}
 use Rattle.fs_chain_c.specs.contracts.handle.ChainBox.into_parts.Key.{name as #self}
 use Rattle.fs_chain_c.proofs.handle.ChainBox.into_parts.Statement.{statement}
@@ -35,8 +36,8 @@ into_parts_spec 𝓤 𝓛 𝓜 𝓡 wired =
     move ! (1 ∷ []) $ heard ! _ (λ is. split ! $ drop ! $ fsplit ! $ chain_out ! d us
     (λ h ws fits. full ! d is (λ x some.
     move ! (0 ∷ 1 ∷ []) $
-    let Γ : List (Item 𝓤) = ‵ (owns_box d.alloc d.at x) ∷ ‵ ((Heap.the_row).own_val d.alloc (h ∷ [])) ∷ [] in
-    let parts : Boxed.Denot = record { ptr = d.at; alloc = d.alloc; value = x } in
+    let Γ : List (Item 𝓤) = ‵ (owns_box Work d.alloc d.at x) ∷ ‵ ((Heap.the_row).own_val d.alloc (h ∷ [])) ∷ [] in
+    let parts : (Boxed Work).Denot = record { ptr = d.at; alloc = d.alloc; value = x } in
     move ! (2 ∷ []) $ drop ! $
     by ! (subst (λ (us : List Val). ent 𝓤 (types.Kit.⋆ 𝓛 Γ) (WpFn 𝓤 H 𝓣.C 𝓣.Λ fn (us ++ []) Post)) (sym ws)
     (qed 𝓛 Γ ∵ enter ! 𝓣.C 𝓣.Λ fn (two d.at h ∷ []) _ $ alloc_all ! (λ ls. pass_all ! refl (two_good d.at h fits, tt) $
@@ -44,6 +45,6 @@ into_parts_spec 𝓤 𝓛 𝓜 𝓡 wired =
     (of_opd ! (get_in ! (fld ! refl (stop !)) (sub ! 1 refl (whole !)))) refl fits $
     sets ! (of_opd ! (get ! refl)) refl (good_ptr d.at) $
     sets ! (agg ! (and_then ! (get ! refl) (and_then ! (get ! refl) (no_more !)))) refl (two_good d.at h fits) $
-    returns ! (look_at ! 0 refl) $ free_all ! refl $ parts_in ! d.alloc d.at x h $
+    returns ! (look_at ! 0 refl) $ free_all ! refl $ parts_in Work ! d.alloc d.at x h $
     suffices ! _ (ends_at 𝓛 ended stayed c y (two d.at h) parts (tt, tt) (tt, tt)) $ says ! some $ nothing ! $ nothing ! $ fjoin ! $
     join ! $ nothing ! $ join ! $ done !)))))))

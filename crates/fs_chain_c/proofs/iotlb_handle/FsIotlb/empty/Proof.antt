@@ -1,10 +1,10 @@
 -- `empty` puts null and 0 beside the allocator, and owns nothing there.
-use Rattle.std.specs.Prelude.{None}
-use Rattle.std.proofs.Common.{lit<}
+use Rattle.std.proofs.Common.{lit<, None}
 use Rattle.std.proofs.alloc.Calls.{handle_tells}
 use Rattle.std.proofs.raw_atomic.Walks.{proved_at}
 use Rattle.std_heap.specs.contracts.Global as Heap
-use Rattle.fs_chain_c.proofs.IotlbValues.{Chain, al, chain_in, three, three_good}
+use Rattle.fs_chain_c.proofs.IotlbValues.{Chain, chain_in, three, three_good}
+use Rattle.fs_chain_c.proofs.BoxValues.{al}
 use Rattle.fs_chain_c.specs.contracts.iotlb_handle.FsIotlb.empty.{ended, clauses}
 use Rattle.fs_chain_c.specs.contracts.iotlb_handle.FsIotlb.empty.Key.{name as #self}
 use Rattle.fs_chain_c.proofs.iotlb_handle.FsIotlb.empty.Statement.{statement}

@@ -1,12 +1,12 @@
 -- `into_parts` moves a pointer and a handle, if the number beside them is 1, and what they own goes with them. With 0 they own nothing.
-use Rattle.std.specs.Prelude.{None, Some}
-use Rattle.std.proofs.Common.{lit<, ap, ◌∙◌}
+use Rattle.std.proofs.Common.{lit<, ap, ◌∙◌, None, Some}
 use Rattle.std.proofs.raw_atomic.Walks.{proved_at}
 use Rattle.std_heap.specs.contracts.Global as Heap
 use Rattle.core.proofs.alloc.Shapes.{after}
 use Rattle.core.proofs.option.Made.{Some-of, none_of}
 use Rattle.std_alloc.proofs.ResultValues.{and_tt}
-use Rattle.fs_chain_c.proofs.IotlbValues.{Boxed, Chain, chain_out, either, good_ptr, owns_box, parts_in, three, three_good, two, two_good}
+use Rattle.fs_chain_c.proofs.IotlbValues.{Chain, Work, chain_out, either, three, three_good}
+use Rattle.fs_chain_c.proofs.BoxValues.{Boxed, good_ptr, owns_box, parts_in, two, two_good}
 use Rattle.fs_chain_c.specs.contracts.iotlb_handle.FsIotlb.into_parts.{ended, clauses}
 use Rattle.fs_chain_c.specs.contracts.iotlb_handle.FsIotlb.into_parts.Key.{name as #self}
 use Rattle.fs_chain_c.proofs.iotlb_handle.FsIotlb.into_parts.Statement.{statement}
@@ -55,14 +55,14 @@ into_parts_spec 𝓤 𝓛 𝓜 𝓡 wired =
     (λ _. sets_last ! (agg ! (and_then ! (lit ! tt) (no_more !))) refl (tt, (record { fits = lit< tt }, tt)) $ exec ! 𝓣.C 𝓣.Λ Ev
     (after 5 fn.body) (at_ret Ev Post) $
     sets ! (of_opd ! (get ! refl)) refl (tt, (record { fits = lit< tt }, tt)) $ returns ! (look_at ! 0 refl) $ free_all ! refl $
-    drop ! $ use0 𝓛 (‵ (Out.own_val None (live 0 vnil ∷ []))) (none_of 𝓛 Boxed) $
+    drop ! $ use0 𝓛 (‵ (Out.own_val None (live 0 vnil ∷ []))) (none_of 𝓛 (Boxed Work)) $
     suffices ! _ (ends_at 𝓛 ended stayed c y (live 0 vnil) None (tt, tt) (tt, tt)) $ says ! none $ nothing ! $ nothing ! $ fjoin ! $ join !
     $ nothing ! $ join ! $ done !)
     (λ wrong. absurd wrong)))))
     (λ x some one.
     move ! (2 ∷ 3 ∷ []) $ drop ! $ drop ! $
-    let Γ : List (Item 𝓤) = ‵ (owns_box d.alloc d.at x) ∷ ‵ ((Heap.the_row).own_val d.alloc (h ∷ [])) ∷ [] in
-    let parts : Boxed.Denot = record { ptr = d.at; alloc = d.alloc; value = x } in let v : Val = live 1 (vcons (two d.at h) vnil) in
+    let Γ : List (Item 𝓤) = ‵ (owns_box Work d.alloc d.at x) ∷ ‵ ((Heap.the_row).own_val d.alloc (h ∷ [])) ∷ [] in
+    let parts : (Boxed Work).Denot = record { ptr = d.at; alloc = d.alloc; value = x } in let v : Val = live 1 (vcons (two d.at h) vnil) in
     let typed = two_good d.at h fits in
     by ! (subst (λ (us : List Val). ent 𝓤 (types.Kit.⋆ 𝓛 Γ) (WpFn 𝓤 H 𝓣.C 𝓣.Λ fn (us ++ []) Post))
     (sym (ws ∙ ap (λ n. three d.at h n ∷ []) one))
@@ -78,7 +78,7 @@ into_parts_spec 𝓤 𝓛 𝓜 𝓡 wired =
     (and_tt _ typed.0, (record { fits = lit< tt }, (typed.1, tt))) $
     exec ! 𝓣.C 𝓣.Λ Ev (after 5 fn.body) (at_ret Ev Post) $ sets ! (of_opd ! (get ! refl)) refl
     (and_tt _ typed.0, (record { fits = lit< tt }, (typed.1, tt))) $
-    returns ! (look_at ! 0 refl) $ free_all ! refl $ parts_in ! d.alloc d.at x h $ use1 𝓛 (‵ (Out.own_val (Some parts) (v ∷ [])))
-    (Some-of 𝓛 Boxed parts (two d.at h)) $
+    returns ! (look_at ! 0 refl) $ free_all ! refl $ parts_in Work ! d.alloc d.at x h $ use1 𝓛 (‵ (Out.own_val (Some parts) (v ∷ [])))
+    (Some-of 𝓛 (Boxed Work) parts (two d.at h)) $
     suffices ! _ (ends_at 𝓛 ended stayed c y v (Some parts) (tt, tt) (tt, tt)) $ says ! some $ nothing ! $ nothing ! $ fjoin ! $ join ! $
     nothing ! $ join ! $ done !)))))))
