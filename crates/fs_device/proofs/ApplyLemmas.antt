@@ -1,7 +1,6 @@
 -- pages that are looked at and put in, one further
 use Rattle.std.proofs.Common.{◌≡◌, ℕ, ◌+◌, ◌≤◌, ◌<◌, Bool, true, false, List, [], ◌∷◌, length, map, drop, get_or, Option, Some, None, Ok}
-use Rattle.std.proofs.Common.{Err, refl, ap, sym, ◌∙◌, arith, nat_le, if◌then◌else◌}
-use Rattle.std.specs.Prelude.{◌↔◌, IsTrue, slice_get, set}
+use Rattle.std.proofs.Common.{◌↔◌, IsTrue, slice_get, set, Err, refl, ap, sym, ◌∙◌, arith, nat_le, if◌then◌else◌}
 use Rattle.std.specs.Bool.{OnTrue}
 use Rattle.std.specs.List.{zip}
 use Rattle.std.proofs.lemmas.List.{drop_all, get_or_default, get_or-map, length-map}
@@ -79,8 +78,7 @@ lies_in : (ls : List ℕ) (i : ℕ) (p : Page) (later : Option ApplyError) (o : 
 lies_in ls i p later None at e = absurd (cc)
 lies_in ls i p later (Some len) at e =
     let room = leb-true (p.offset + length p.bytes) len (within (nat_le (p.offset + length p.bytes) len) i later e) in
-    let there = get_or_from_slice_get ls p.block len 0 at in
-    (slice_get_within ls p.block len at, omega (arith, room, there))
+    (slice_get_within ls p.block len at, omega (arith, room, get_or_from_slice_get ls p.block len 0 at))
 
 -- a page that isn't refused lies in its block
 lies : (ls : List ℕ) (i : ℕ) (p : Page) (later : Option ApplyError) → or_later (refused_by (slice_get ls p.block) i p) later ≡ None →

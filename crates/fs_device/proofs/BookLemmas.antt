@@ -1,7 +1,6 @@
 -- the accounts of steps, kicks and runs
 use Rattle.std.proofs.Common.{◌≡◌, ℕ, zero, suc, ◌+◌, ◌-◌, ◌≤◌, Bool, true, false, List, [], ◌∷◌, length, drop, Option, Some, None, refl}
-use Rattle.std.proofs.Common.{ap, sym, ◌∙◌, subst, arith}
-use Rattle.std.specs.Prelude.{◌==◌, ◌≢◌, if◌then◌else◌, IsTrue, nat_lt, sum_by, slice_get}
+use Rattle.std.proofs.Common.{◌==◌, ◌≢◌, if◌then◌else◌, IsTrue, nat_lt, sum_by, slice_get, ap, sym, ◌∙◌, subst, arith}
 use Rattle.std.proofs.lemmas.List.Sums.{sum_by-cons}
 use Rattle.std.proofs.lemmas.Bool.{le-ltb, lt-ltb}
 use Rattle.fuse_wire.specs.declared.opcodes.Opcode.{Opcode}
@@ -28,7 +27,7 @@ use Rattle.plain_machine.specs.Run as run
 use Rattle.plain_machine.specs.Run.{Turn, Turns, Command, Answer, KickRun, Kicks, KickAnswer, Does, Performs, RunReported}
 use Rattle.fs_device.specs.Books.{answered, sent, written, accepted, nodes_in, nodes_listed, opcode_in, entry_count, forget_count}
 use Rattle.fs_device.specs.Books.{forgets_meant, IsBalanced}
-use Rattle.fs_device.proofs.NodeLemmas.{drop_reply, drop_error, none_in_nothing, not_zero}
+use Rattle.fs_device.proofs.NodeLemmas.{drop_reply, drop_error, either_way, none_in_nothing, not_zero}
 use Rattle.fs_device.proofs.MeaningLemmas.{has_entry, no_entry, not_true, CallFits, MeaningFits, ListFits, meaning_fits}
 use Rattle.fs_device.proofs.ListBooks.{entries_in, counts_in, times, entries_more, counts_more, no_step, one_step, list_balances, list_fits}
 use Rattle.fs_device.proofs.ListBooks.{plain_asks_nothing}
@@ -46,10 +45,6 @@ taken_made n step calls m = let some = not_zero (length (step ∷ calls)) (omega
 -- what comes of a request balances
 abbrev Balanced : (n : ℕ) → Option Opcode → Calls → (back : ℕ) → ServedMessage → Type 0
 Balanced n o calls back given = entries_in n calls + back ≡ times n (nodes_in o (drop 16 given.reply)) + counts_in n calls
-
-either_way : (b : Bool) (k : ℕ) → (if b then k else k) ≡ k
-either_way true k = refl
-either_way false k = refl
 
 silent : (n : ℕ) (o : Option Opcode) → times n (nodes_in o (drop 16 [])) ≡ 0
 silent n o = ap (times n) (none_in_nothing o)
@@ -111,20 +106,12 @@ module _ (n : ℕ) (some : n ≢ 0) (s : Setting) (o : Option Opcode) where
       (if long then forget_entry c a else []) ≡ calls_alone more → Balanced n o ((c, a) ∷ more) (forget_count n c)
       (in_room long (c ∷ (if long then forget_entry c a else [])) (options_after s.options c) (answer_bytes unique c a))
   one_given unique c a more true fits suit asks =
-      let silence = silent n o in
       let back = gives_back n c a suit.0 more suit.1 asks in
-      let x = entries_more n (c, a) more in
-      let y = counts_more n (c, a) more in
-      let none = back.0 in
-      let same = back.1 in
-      omega (arith, silence, x, y, none, same)
+      omega (arith, silent n o, entries_more n (c, a) more, counts_more n (c, a) more, back.0, back.1)
   one_given unique c a more false fits suit asks =
-      let x = entries_more n (c, a) more in
-      let y = counts_more n (c, a) more in
       let e : entries_in n more ≡ 0 = ap (entries_in n) (no_step more asks) in
       let k : counts_in n more ≡ 0 = ap (counts_in n) (no_step more asks) in
-      let reported = fits unique a suit.0 in
-      omega (arith, x, y, e, k, reported)
+      omega (arith, entries_more n (c, a) more, counts_more n (c, a) more, e, k, fits unique a suit.0)
 
   -- the same of the call that was made
   one_made :
@@ -195,21 +182,18 @@ module _ (n : ℕ) (some : n ≢ 0) (s : Setting) (o : Option Opcode) where
       let same = list_balances n some l is ds steps l.size (s.room - 16) suit asks (length w.bytes) (omega arith) in
       let x = entries_more n (readdir_call l, call.Entries ds) steps in
       let y = counts_more n (readdir_call l, call.Entries ds) steps in
-      let k = ap (times n) nodes in
       replied_whole n o ((readdir_call l, call.Entries ds) ∷ steps) 0 s.options (readdir_call l ∷ w.calls) bytes
       (nat_lt s.room (length bytes))
-      (le-ltb s.room (length bytes) low) (omega (arith, same, x, y, k)) refl
+      (le-ltb s.room (length bytes) low) (omega (arith, same, x, y, ap (times n) nodes)) refl
   outcome_balances unique l ds steps false is fits suit asks =
       let w = list_entries l ds l.size (s.room - 16) (answers_alone steps) in
       let bytes = listing_bytes unique l.with_nodes w.bytes w.error in
       let nothing = no_step steps (sym (plain_asks_nothing l is ds l.size (s.room - 16) (answers_alone steps)) ∙ asks) in
-      let x = entries_more n (readdir_call l, call.Entries ds) steps in
-      let y = counts_more n (readdir_call l, call.Entries ds) steps in
       let a : entries_in n steps ≡ 0 = ap (entries_in n) nothing in
       let b : counts_in n steps ≡ 0 = ap (counts_in n) nothing in
       replied_balances n o ((readdir_call l, call.Entries ds) ∷ steps) 0 s.options (readdir_call l ∷ w.calls) bytes
-      (nat_lt s.room (length bytes)) (omega (arith, x, a))
-      (ap (times n) (fits (drop 16 bytes))) (omega (arith, y, b))
+      (nat_lt s.room (length bytes)) (omega (arith, entries_more n (readdir_call l, call.Entries ds) steps, a))
+      (ap (times n) (fits (drop 16 bytes))) (omega (arith, counts_more n (readdir_call l, call.Entries ds) steps, b))
 
   -- an answer that lists nothing
   unlisted : (l : ListRequest) (c : FileCall) (a : FileAnswer) (steps : Calls) (bytes : List ℕ) (long : Bool) → readdir_call l ≡ c →
@@ -218,13 +202,12 @@ module _ (n : ℕ) (some : n ≢ 0) (s : Setting) (o : Option Opcode) where
       Balanced n o ((c, a) ∷ steps) 0 (in_room long (readdir_call l ∷ []) s.options bytes)
   unlisted l c a steps bytes long is suit asks none =
       let x = entries_more n (c, a) steps in
-      let y = counts_more n (c, a) steps in
       let z : entries_in n steps ≡ 0 = ap (entries_in n) (no_step steps asks) in
       let v : counts_in n steps ≡ 0 = ap (counts_in n) (no_step steps asks) in
       let f : forget_count n c ≡ 0 = ap (forget_count n) (sym is) in
       let e : entry_count n a ≡ 0 = no_entry n c a (ap (λ (c : FileCall). has_entry (kind_of c)) (sym is)) suit in
       replied_balances n o ((c, a) ∷ steps) 0 s.options (readdir_call l ∷ []) bytes long (omega (arith, x, z, e)) (ap (times n) none)
-      (omega (arith, y, v, f))
+      (omega (arith, counts_more n (c, a) steps, v, f))
 
   list_given : (unique : ℕ) (l : ListRequest) (c : FileCall) (a : FileAnswer) (steps : Calls) → ListFits s.room o l.with_nodes →
       EachSuits ((c, a) ∷ steps) →
@@ -329,9 +312,7 @@ kick_balances may n some s i (suc most) (x ∷ reported) refused after (mid, ste
     let others = kick_balances may n some mid i most reported refused after rest in
     let a = sum_by-cons (answered n) x reported in
     let b = sum_by-cons (accepted n) x reported in
-    let c = sum_by-cons (written n) x reported in
-    let d = sum_by-cons (sent n) x reported in
-    omega (arith, own, others, a, b, c, d)
+    omega (arith, own, others, a, b, sum_by-cons (written n) x reported, sum_by-cons (sent n) x reported)
 
 kicks_balance : {F : Type 0} (may : May F) (n : ℕ) → n ≢ 0 →
     (s : State F) (i most : ℕ) (o : Option Queue) (reported : Turns) (k : KickAnswer) (after : State F) →
@@ -365,10 +346,9 @@ unfolding RunReported
 run_balances may n some s [] [] after t = refl
 run_balances may n some s (e ∷ es) (reported ∷ all_reported) after (mid, performs, rest) =
     let own = performs_balance may n some s e.0 reported e.1 mid performs in
-    let others = run_balances may n some mid es all_reported after rest in
     let a = sum_by-cons (λ (l : Turns). sum_by (answered n) l) reported all_reported in
     let b = sum_by-cons (λ (l : Turns). sum_by (accepted n) l) reported all_reported in
     let c = sum_by-cons (λ (l : Turns). sum_by (written n) l) reported all_reported in
     let d = sum_by-cons (λ (l : Turns). sum_by (sent n) l) reported all_reported in
-    omega (arith, own, others, a, b, c, d)
+    omega (arith, own, run_balances may n some mid es all_reported after rest, a, b, c, d)
 run_balances may n some s _ _ after t = absurd t

@@ -28,11 +28,8 @@ module _ (to from : List ℕ) (at : ℕ) where
   length-turned same =
       let a = length-take (at + 4096 - at) (drop at from) in
       let b = length-drop at from in
-      let c = length-take at to in
-      let d = length-drop (at + length page) to in
-      let e = length-append (take at to) page in
       let f : length (turned to from at) ≡ length (take at to ++ page) + length rest = length-append (take at to ++ page) rest in
-      f ∙ omega (arith, a, b, c, d, e)
+      f ∙ omega (arith, a, b, length-take at to, length-drop (at + length page) to, length-append (take at to) page)
 
   joined : (o : ℕ) → get_or (turned to from at) o 0 ≡ get_or (take at to ++ (page ++ rest)) o 0
   joined o = ap (λ (l : List ℕ). get_or l o 0) (append_assoc (take at to) page rest)

@@ -1,6 +1,5 @@
 -- the request and the room of a chain, by its joined bytes and its lengths
-use Rattle.std.proofs.Common.{◌≡◌, ℕ, Bool, false, ◌||◌, not, nat_lt, List, length, ap, sym, ◌∙◌, subst}
-use Rattle.std.specs.Prelude.{if◌then◌else◌}
+use Rattle.std.proofs.Common.{◌≡◌, ℕ, Bool, false, ◌||◌, not, nat_lt, List, length, ap, sym, ◌∙◌, subst, if◌then◌else◌}
 use Rattle.vm_iotlb.specs.declared.permissions.Permissions.TheVariants.{Read, Write}
 use Rattle.vm_memory.specs.Memory.{Memory}
 use Rattle.fs_queue.specs.Chain.{Descriptor}

@@ -1,6 +1,5 @@
 -- an entry that is given back counts as often as it was answered
-use Rattle.std.proofs.Common.{◌≡◌, ℕ, false, List, [], ◌∷◌, refl, ap, sym, ◌∙◌, arith, subst}
-use Rattle.std.specs.Prelude.{IsTrue}
+use Rattle.std.proofs.Common.{◌≡◌, ℕ, false, List, [], ◌∷◌, refl, ap, sym, ◌∙◌, arith, subst, IsTrue}
 use Rattle.fuse_fs.specs.declared.answers.Context.{Context}
 use Rattle.fuse_fs.specs.Calls.{FileCall, FileAnswer, suits, kind_of}
 use Rattle.fuse_fs.specs.Calls as call
@@ -27,8 +26,7 @@ node_back n who x a counts steps suit asks =
     let only : EachSuits ((call.Forget who x 1, one.0) ∷ []) = subst EachSuits one.1 suit in
     let none : entry_count n one.0 ≡ 0 = no_entry n (call.Forget who x 1) one.0 refl only.0 in
     let e = entries_more n (call.Forget who x 1, one.0) [] in
-    let c = counts_more n (call.Forget who x 1, one.0) [] in
-    rw one.1 (omega (arith, e, none), omega (arith, c, counts))
+    rw one.1 (omega (arith, e, none), omega (arith, counts_more n (call.Forget who x 1, one.0) [], counts))
 
 -- by the answer
 entry_back : (n : ℕ) (who : Context) (a : FileAnswer) → GivesBack n a (forget_node who (entry_node a))

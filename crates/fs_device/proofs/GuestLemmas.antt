@@ -1,10 +1,8 @@
 -- what a guest reads and writes of its own memory
-use Rattle.std.proofs.Common.{◌≡◌, ℕ, Bool, true, false, ◌+◌, ◌^◌, ◌<◌, ◌&&◌, nat_lt, eqb, List, [], ◌∷◌, ◌++◌, Some, None, length, map}
+use Rattle.std.proofs.Common.{◌≡◌, ℕ, Bool, true, false, ◌+◌, ◌^◌, ◌<◌, nat_lt, eqb, List, [], ◌∷◌, ◌++◌, Some, None, length, map, is_some}
 use Rattle.std.proofs.Common.{take, drop, zip, append-nil, ap, sym, ◌∙◌, refl, arith}
-use Rattle.std.specs.Prelude.{is_some}
 use Rattle.std.specs.List.{list_all}
-use Rattle.std.proofs.lemmas.Bool.{eqb-true}
-use Rattle.std.proofs.lemmas.Bool.Decides.{nat_tests}
+use Rattle.std.proofs.lemmas.Bool.{and_parts, eqb-true, lt-ltb, ltb-true}
 use Rattle.std.proofs.lemmas.List.{take_all, drop_all}
 use Rattle.vm_iotlb.specs.declared.permissions.Permissions.{Permissions}
 use Rattle.vm_iotlb.specs.declared.permissions.Permissions.TheVariants.{Read, Write}
@@ -16,29 +14,19 @@ use Rattle.vm_memory.specs.Memory.{stored_at}
 use Rattle.vm_memory.proofs.Places.{circular-is, length-circular, length-addresses, list_all-reached}
 use Rattle.plain_machine.specs.Run.{guest_written}
 
-below : (n : ℕ) → n < 2 ^ 64 → nat_lt n (2 ^ 64) ≡ true
-below n h = grind (arith, nat_tests)
-
-below_of : (n : ℕ) → nat_lt n (2 ^ 64) ≡ true → n < 2 ^ 64
-below_of n h = grind (arith, nat_tests)
-
 pub reach_fits : (h : Host) (l : List Region) (access : Permissions) (a n : ℕ) → a + n < 2 ^ 64 →
     list_all (λ (x : ℕ). is_some (place l x)) (circular a n) ≡ reach (memory_of h l) access a n
-reach_fits h l access a n fits = rw (below (a + n) fits, circular-is n a fits) refl
-
-both_first : (x y : Bool) → (x && y) ≡ true → x ≡ true
-both_first true y h = refl
-both_first false y h = absurd (cc)
+reach_fits h l access a n fits = rw (lt-ltb (a + n) (2 ^ 64) fits, circular-is n a fits) refl
 
 -- a range that is reached ends below 2^64
 pub reach_ends : (h : Host) (l : List Region) (access : Permissions) (a n : ℕ) → reach (memory_of h l) access a n ≡ true → a + n < 2 ^ 64
-reach_ends h l access a n all = below_of (a + n) (both_first (nat_lt (a + n) (2 ^ 64)) _ all)
+reach_ends h l access a n all = ltb-true (a + n) (2 ^ 64) (and_parts (nat_lt (a + n) (2 ^ 64)) _ all).0
 
 -- a range is reached where each of its addresses is
 reach-is :
     (h : Host) (l : List Region) (a n : ℕ) → a + n < 2 ^ 64 → reach (memory_of h l) Read a n ≡ eqb (reached (place l) (circular a n)) n
 reach-is h l a n fits =
-    rw (below (a + n) fits) (list_all-reached (addresses a n) (place l)
+    rw (lt-ltb (a + n) (2 ^ 64) fits) (list_all-reached (addresses a n) (place l)
     ∙ ap (eqb (reached (place l) (addresses a n))) (length-addresses n a)
     ∙ ap (λ (xs : List ℕ). eqb (reached (place l) xs) n) (sym (circular-is n a fits)))
 

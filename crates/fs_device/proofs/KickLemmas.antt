@@ -1,7 +1,6 @@
 -- kicks end, or go on by one exchange
 use Rattle.std.proofs.Common.{◌≡◌, ℕ, Bool, true, false, zero, suc, ◌<◌, ◌&&◌, nat_lt, ◌++◌, List, [], ◌∷◌, append_assoc, append-nil, arith}
-use Rattle.std.proofs.Common.{sym, refl, ap, subst, Option, Some, None, length, set}
-use Rattle.std.specs.Prelude.{slice_get}
+use Rattle.std.proofs.Common.{slice_get, sym, refl, ap, subst, Option, Some, None, length, set}
 use Rattle.std.proofs.lemmas.Option.{slice_get-get_or}
 use Rattle.std.proofs.lemmas.Bool.Decides.{nat_tests}
 use Rattle.vm_memory.specs.Memory.{Memory}

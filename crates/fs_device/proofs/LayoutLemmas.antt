@@ -1,22 +1,19 @@
 -- blocks and layouts that change under a machine
 use Rattle.std.proofs.Common.{◌≡◌, ℕ, zero, suc, Bool, true, false, ◌+◌, ◌<◌, ◌≤◌, ◌^◌, List, [], ◌∷◌, ◌++◌, length, map, ap, sym, ◌∙◌}
-use Rattle.std.proofs.Common.{refl, arith, Option, Some, None, length-append, subst}
+use Rattle.std.proofs.Common.{option_map, IsSome, IsTrue, Result, Ok, Err, replicate, ◌==◌, ◌||◌, not, nat_lt, cond, find, slice_get}
+use Rattle.std.proofs.Common.{slice_index_or, if◌then◌else◌, refl, arith, Option, Some, None, length-append, subst}
 use Rattle.std.specs.declared.alloc.AllocError.{AllocError}
 use Rattle.std.specs.Result.{IfOk, OnErr}
 use Rattle.std.proofs.lemmas.List.{map-append}
-use Rattle.std.specs.Prelude.{option_map, IsSome, IsTrue, Result, Ok, Err, replicate, ◌==◌, ◌||◌, not, nat_lt, cond, find, slice_get}
-use Rattle.std.specs.Prelude.{slice_index_or, if◌then◌else◌}
 use Rattle.std.specs.List.{list_all, list_any}
 use Rattle.std.proofs.lemmas.Bool.{eqb-true, and_parts}
 use Rattle.std.proofs.lemmas.Bool.Decides.{nat_tests}
-use Rattle.vm_memory_core.specs.Host.{Block, Host, lengths, with_block}
+use Rattle.vm_memory_core.specs.Host.{Block, Host, lengths, with_block, page_count}
 use Rattle.vm_memory.specs.Collecting.{Removes}
 use Rattle.vm_memory.specs.declared.error.GuestRegionCollectionError.{GuestRegionCollectionError}
 use Rattle.vm_memory.specs.declared.error.GuestRegionCollectionError.TheVariants as fault
-use Rattle.vm_memory.specs.Layout.{Region, fits, overlap, with_region, is_region, without_region, IsLayout, AreHeld}
+use Rattle.vm_memory.specs.Layout.{Region, fits, overlap, with_region, is_region, without_region, IsLayout, AreHeld, Backing}
 use Rattle.vm_bitmaps.specs.Pages.{pages_of}
-use Rattle.vm_memory_core.specs.Host.{page_count}
-use Rattle.vm_memory.specs.Layout.{Backing}
 use Rattle.vm_memory.specs.Making.{backing_at, region_over}
 use Rattle.plain_machine.specs.declared.refusal.Refusal.TheVariants as why
 use Rattle.plain_machine.specs.Step.{State}

@@ -1,7 +1,6 @@
 -- the accounts of a listing: what READDIRPLUS lists, looks up and takes back
 use Rattle.std.proofs.Common.{◌≡◌, ℕ, zero, suc, ◌+◌, ◌-◌, ◌^◌, ◌<◌, ◌≤◌, Bool, true, false, List, [], ◌∷◌, ◌++◌, length, refl, ap, sym}
-use Rattle.std.proofs.Common.{◌∙◌, subst, arith, length-append}
-use Rattle.std.specs.Prelude.{◌==◌, ◌≢◌, if◌then◌else◌, IsTrue, count_by, sum_by}
+use Rattle.std.proofs.Common.{◌==◌, ◌≢◌, if◌then◌else◌, IsTrue, count_by, sum_by, ◌∙◌, subst, arith, length-append}
 use Rattle.std.proofs.lemmas.List.Sums.{sum_by-cons}
 use Rattle.std.proofs.lemmas.Bool.{ltb-true}
 use Rattle.std.proofs.lemmas.Bool.Decides.{nat_tests}
@@ -70,13 +69,9 @@ put_in : (n : ℕ) (e : Entry ℕ) (d : Listed) (next : ListingResult) (steps : 
     length (entry_bytes true e d ++ next.bytes) ≤ most →
     entries_in n steps + is_node n e.inode ≡ times n (nodes_listed most (entry_bytes true e d ++ next.bytes)) + counts_in n steps
 put_in n e d next steps node name rest zero fits =
-    let a = length-append (entry_bytes true e d) next.bytes in
-    let b = length_entry e d in
-    absurd (omega (arith, a, b, fits))
+    absurd (omega (arith, length-append (entry_bytes true e d) next.bytes, length_entry e d, fits))
 put_in n e d next steps node name rest (suc most) fits =
-    let a = length-append (entry_bytes true e d) next.bytes in
-    let b = length_entry e d in
-    let behind = rest most (omega (arith, a, b, fits)) in
+    let behind = rest most (omega (arith, length-append (entry_bytes true e d) next.bytes, length_entry e d, fits)) in
     let listed : times n (nodes_listed (suc most) (entry_bytes true e d ++ next.bytes))
     ≡ is_node n e.inode + times n (nodes_listed most next.bytes) =
     ap (times n) (nodes_more most e d next.bytes node name) ∙ times_more n e.inode (nodes_listed most next.bytes) in
@@ -91,8 +86,7 @@ taken_back n who x steps suit e most =
     let only : EachSuits ((forget_lookup who x, one.0) ∷ []) = subst EachSuits one.1 suit in
     let none : entry_count n one.0 ≡ 0 = no_entry n (forget_lookup who x) one.0 refl only.0 in
     let a = entries_more n (forget_lookup who x, one.0) [] in
-    let b = counts_more n (forget_lookup who x, one.0) [] in
-    rw (nothing_listed most, one.1) (omega (arith, none, a, b))
+    rw (nothing_listed most, one.1) (omega (arith, none, a, counts_more n (forget_lookup who x, one.0) []))
 
 placed_balances : (n : ℕ) (who : Context) (e : Entry ℕ) (d : Listed) (fit : Fit) (next : ListingResult) (steps : Calls) → e.inode < 2 ^ 64 →
     (fit ≡ FitsIn → length d.name < 2 ^ 32) → EachSuits steps →
@@ -122,8 +116,7 @@ stopped : (n : ℕ) (c : FileCall) (a : FileAnswer) (steps : Calls) → forget_c
     entries_in n ((c, a) ∷ steps) + 0 ≡ times n (nodes_listed most []) + counts_in n ((c, a) ∷ steps)
 stopped n c a steps keeps none e most =
     let x = entries_more n (c, a) [] in
-    let y = counts_more n (c, a) [] in
-    rw (no_step steps e, nothing_listed most) (omega (arith, keeps, none, x, y))
+    rw (no_step steps e, nothing_listed most) (omega (arith, keeps, none, x, counts_more n (c, a) []))
 
 looked_up_balances : (n : ℕ) (l : ListRequest) (d : Listed) (next : Next) (left room : ℕ) (c : FileCall) (a : FileAnswer) (steps : Calls) →
     call.Lookup l.context l.node d.name ≡ c → IsTrue (suits c a) → EachSuits steps →
@@ -135,9 +128,7 @@ looked_up_balances n l d next left room c (call.HasEntry e) steps is fits suit r
     let small : e.inode < 2 ^ 64 = ltb-true e.inode (2 ^ 64) (rw (← is) at fits) in
     let behind = entry_balances n l.context e d next left room steps small suit rest asks most low in
     let keeps : forget_count n c ≡ 0 = ap (forget_count n) (sym is) in
-    let x = entries_more n (c, call.HasEntry e) steps in
-    let y = counts_more n (c, call.HasEntry e) steps in
-    omega (arith, behind, keeps, x, y)
+    omega (arith, behind, keeps, entries_more n (c, call.HasEntry e) steps, counts_more n (c, call.HasEntry e) steps)
 looked_up_balances n l d next left room c (call.Created e handle options) steps is fits suit rest asks most low =
     not_true (rw (← is) at fits)
 looked_up_balances n l d next left room c a steps is fits suit rest asks most low =
@@ -203,10 +194,7 @@ placed_fits : (e : Entry ℕ) (d : Listed) (fit : Fit) (undo : List FileCall) (n
     (fit ≡ FitsIn → entry_len true (length d.name) ≤ room) →
     length next.bytes ≤ room - entry_len true (length d.name) → length (placed fit (entry_bytes true e d) undo next).bytes ≤ room
 placed_fits e d FitsIn undo next room fits low =
-    let a = length-append (entry_bytes true e d) next.bytes in
-    let b = length_entry e d in
-    let c = fits refl in
-    omega (arith, a, b, c, low)
+    omega (arith, length-append (entry_bytes true e d) next.bytes, length_entry e d, fits refl, low)
 placed_fits e d _ undo next room fits low = omega arith
 
 entry_fits : (e : Entry ℕ) (d : Listed) (undo : List FileCall) (next : Next) (left room : ℕ) (answers : List FileAnswer) →

@@ -1,10 +1,11 @@
 -- the table of a machine's device, and what its host holds besides
-use Rattle.std.proofs.Common.{◌≡◌, ℕ, suc, Bool, true, false, ◌+◌, ◌<◌, ◌≤◌, ◌^◌, ◌&&◌, nat_lt, List, [], ◌∷◌, length, ap, sym, ◌∙◌}
-use Rattle.std.proofs.Common.{refl, arith, subst, inl, inr}
+use Rattle.std.proofs.Common.{◌≡◌, ℕ, suc, Bool, true, false, ◌+◌, ◌<◌, ◌≤◌, ◌^◌, ◌&&◌, nat_lt, List, [], ◌∷◌, length, ap, sym, ◌∙◌, refl}
+use Rattle.std.proofs.Common.{subst, inl, inr}
 use Rattle.std.specs.Prelude.{◌⊎◌, Result, Ok, Err, replicate, slice_get, slice_set, unwrap_or}
 use Rattle.std.specs.Result.{IfOk, OnErr}
 use Rattle.std.specs.declared.alloc.AllocError.{AllocError}
-use Rattle.std.proofs.lemmas.Bool.Decides.{nat_tests}
+use Rattle.std.proofs.lemmas.Bool.{and_from, le-ltb, lt-ltb}
+use Rattle.std.proofs.Math.Bool.{and-false}
 use Rattle.vm_iotlb.specs.declared.range.IotlbRange.{IotlbRange}
 use Rattle.vm_iotlb.specs.Table.{Table}
 use Rattle.vm_iotlb.specs.AddressRuns.{begins_anew_about, carries_on_at}
@@ -20,15 +21,11 @@ use Rattle.fs_device.proofs.LayoutLemmas.{preserved}
 -- ---- ends
 
 pub fits_not : (a n : ℕ) → 2 ^ 64 ≤ a + n → ends_fit a n ≡ false
-fits_not a n h = grind (arith, nat_tests)
-
-and_false : (x : Bool) → (x && false) ≡ false
-and_false true = refl
-and_false false = refl
+fits_not a n h = le-ltb (a + n) (2 ^ 64) h
 
 pub one_fits_not : (a b n : ℕ) → (2 ^ 64 ≤ a + n) ⊎ (2 ^ 64 ≤ b + n) → (ends_fit a n && ends_fit b n) ≡ false
 one_fits_not a b n (inl h) = rw (fits_not a n h) refl
-one_fits_not a b n (inr h) = rw (fits_not b n h) (and_false (ends_fit a n))
+one_fits_not a b n (inr h) = rw (fits_not b n h) (and-false (ends_fit a n))
 
 -- ---- what changes a table
 
@@ -47,27 +44,19 @@ pub left_same : (old new : Host) (number : ℕ) (ranges : List IotlbRange) → r
 left_same old new number ranges same is =
     is ∙ ap (with_table_at old number) same ∙ ap (λ (l : List (List IotlbRange)). record old { tables = l }) (set-same old.tables number)
 
-wanted : (n : ℕ) → 0 < n → nat_lt 0 n ≡ true
-wanted n h = grind (arith, nat_tests)
-
-ends : (a n : ℕ) → a + n < 2 ^ 64 → ends_fit a n ≡ true
-ends a n h = grind (arith, nat_tests)
-
-both : (x y : Bool) → x ≡ true → y ≡ true → (x && y) ≡ true
-both x y e f = rw e f
-
 -- memory is wanted for some addresses alone, where their end fits and a range is split there
 pub wanted_to_unmap : (t : Table) (a n : ℕ) → a + n < 2 ^ 64 → 0 < n → carries_on_at t (a + n) ≡ true →
     ((nat_lt 0 n && ends_fit a n) && carries_on_at t (a + n)) ≡ true
 wanted_to_unmap t a n fits some on =
-    both (nat_lt 0 n && ends_fit a n) (carries_on_at t (a + n)) (both (nat_lt 0 n) (ends_fit a n) (wanted n some) (ends a n fits)) on
+    and_from (nat_lt 0 n && ends_fit a n) (carries_on_at t (a + n))
+    (and_from (nat_lt 0 n) (ends_fit a n) (lt-ltb 0 n some) (lt-ltb (a + n) (2 ^ 64) fits)) on
 
 pub wanted_to_map : (t u : Table) (a b n : ℕ) → a + n < 2 ^ 64 → b + n < 2 ^ 64 → 0 < n → begins_anew_about t u a (a + n) ≡ true →
     ((nat_lt 0 n && (ends_fit a n && ends_fit b n)) && begins_anew_about t u a (a + n)) ≡ true
 wanted_to_map t u a b n fits target some anew =
-    both (nat_lt 0 n && (ends_fit a n && ends_fit b n)) (begins_anew_about t u a (a + n))
-    (both (nat_lt 0 n) (ends_fit a n && ends_fit b n) (wanted n some)
-    (both (ends_fit a n) (ends_fit b n) (ends a n fits) (ends b n target))) anew
+    and_from (nat_lt 0 n && (ends_fit a n && ends_fit b n)) (begins_anew_about t u a (a + n))
+    (and_from (nat_lt 0 n) (ends_fit a n && ends_fit b n) (lt-ltb 0 n some)
+    (and_from (ends_fit a n) (ends_fit b n) (lt-ltb (a + n) (2 ^ 64) fits) (lt-ltb (b + n) (2 ^ 64) target))) anew
 
 -- ---- what a host holds
 

@@ -17,9 +17,8 @@ use Rattle.fs_queue.specs.declared.fault.QueueError.TheVariants as stop
 use Rattle.fs_queue.specs.Queue.{Queue, has_bit, avail_index_at, ring_entry_at, element_at, index_at}
 use Rattle.fs_queue.specs.NextAvail.{NextAvail, next_avail}
 use Rattle.fs_queue.specs.NextAvail as avail
-use Rattle.fs_queue.specs.Chain.{Descriptor, Visit, WalkStep, Faulty, Stops, Found, IsChain, descriptor_at}
-use Rattle.fs_queue.specs.Chain.{is_indirect, indirect_step, ordinary_step, walk_step}
-use Rattle.fs_queue.specs.Chain.{next_visit, onward, path, first_visit, walk, found, after_walk_step, chain}
+use Rattle.fs_queue.specs.Chain.{Descriptor, Visit, WalkStep, Faulty, Stops, Found, IsChain, descriptor_at, is_indirect, indirect_step}
+use Rattle.fs_queue.specs.Chain.{ordinary_step, walk_step, next_visit, onward, path, first_visit, walk, found, after_walk_step, chain}
 use Rattle.fs_queue.specs.Taking.{readable, writable, total_len, all_reach, RequestAndRoom, IsRequest, CannotFetch, request_and_room, Offer}
 use Rattle.fs_queue.specs.Taking.{Offers, Refuses, offer_of, on_head, on_next_avail, offer}
 use Rattle.fs_queue.specs.Returning.{wants_notice}
@@ -27,12 +26,14 @@ use Rattle.fs_device.specs.Marks.{none_marked, without_marks}
 
 -- ---- lists
 
-changed_same : {X Y : Type 0} (f : X → Y) (g : X → X) (l : List X) (i : ℕ) → ((x : X) → f (g x) ≡ f x) → map f (changed_at l i g) ≡ map f l
+-- one element is changed, seen by a function of each
+pub changed_same : {X Y : Type 0} (f : X → Y) (g : X → X) (l : List X) (i : ℕ) → ((x : X) → f (g x) ≡ f x) →
+    map f (changed_at l i g) ≡ map f l
 changed_same f g [] i e = refl
 changed_same {X} {Y} f g (x ∷ l) zero e = ap (λ (y : Y). y ∷ map f l) (e x)
 changed_same {X} {Y} f g (x ∷ l) (suc i) e = ap (λ (r : List Y). f x ∷ r) (changed_same f g l i e)
 
-changed_after : {X Y : Type 0} (f : X → Y) (g : X → X) (h : Y → Y) (l : List X) (i : ℕ) → ((x : X) → f (g x) ≡ h (f x)) →
+pub changed_after : {X Y : Type 0} (f : X → Y) (g : X → X) (h : Y → Y) (l : List X) (i : ℕ) → ((x : X) → f (g x) ≡ h (f x)) →
     map f (changed_at l i g) ≡ changed_at (map f l) i h
 changed_after f g h [] i e = refl
 changed_after {X} {Y} f g h (x ∷ l) zero e = ap (λ (y : Y). y ∷ map f l) (e x)

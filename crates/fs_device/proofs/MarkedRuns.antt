@@ -27,9 +27,8 @@ use Rattle.plain_machine.specs.Step.{State, Exchange, Calls, StepEnd, Idle, Refu
 use Rattle.plain_machine.specs.Step.{after_return, faulty, served_exchange, with_queue}
 use Rattle.plain_machine.specs.Run as run
 use Rattle.plain_machine.specs.Run.{Turns, Command, Answer, Effect, KickEnds, KickRun, Kicks, KickAnswer, Affects, ChangesTable, HasEffect}
-use Rattle.plain_machine.specs.Run.{Does, IsDecided, Performs, LacksMemory, RunReported, effect}
-use Rattle.plain_machine.specs.Run.{guest_read, guest_write, make_block, insert, insert_block, remove_region, set_layout, is_known, has_len}
-use Rattle.plain_machine.specs.Run.{some_overlap, reset, with_host}
+use Rattle.plain_machine.specs.Run.{Does, IsDecided, Performs, LacksMemory, RunReported, effect, guest_read, guest_write, make_block}
+use Rattle.plain_machine.specs.Run.{insert, insert_block, remove_region, set_layout, is_known, has_len, some_overlap, reset, with_host}
 use Rattle.plain_machine.specs.Run.{with_layout, with_ranges, fits_in, block_fits_in, command_takes_memory, ends_fit, no}
 use Rattle.fs_device.specs.Marks.{without_marks, without_its_marks, SameButMarks, SameAnswer, SameEvents}
 use Rattle.fs_device.proofs.MarkLemmas.{unmarked_memory, stores_aside, bytes_same, offers_same, notices_same}

@@ -1,8 +1,8 @@
 -- what a request means fits the nodes in its reply
-use Rattle.std.proofs.Common.{◌≡◌, ℕ, ◌-◌, ◌^◌, ◌<◌, ◌≤◌, Bool, true, false, List, [], ◌∷◌, ◌++◌, drop, Option, Some}
-use Rattle.std.proofs.Common.{Ok, Err, refl, ap, sym, ◌∙◌, subst, arith, append-nil}
-use Rattle.std.specs.Prelude.{◌==◌, ◌&&◌, if◌then◌else◌, IsTrue, nat_lt, nat_le, count_by, unwrap_or}
-use Rattle.std.proofs.lemmas.Bool.{ltb-true}
+use Rattle.std.proofs.Common.{◌≡◌, ℕ, ◌-◌, ◌^◌, ◌<◌, ◌≤◌, Bool, true, false, List, [], ◌∷◌, ◌++◌, drop, Option, Some, Ok, Err, refl, ap}
+use Rattle.std.proofs.Common.{sym, ◌∙◌, subst, arith, append-nil}
+use Rattle.std.specs.Prelude.{◌==◌, if◌then◌else◌, IsTrue, nat_lt, nat_le, count_by, unwrap_or}
+use Rattle.std.proofs.lemmas.Bool.{and_parts, ltb-true}
 use Rattle.std.proofs.lemmas.List.Sums.{sum_by-cons}
 use Rattle.vm_values.specs.Fields.{spelled}
 use Rattle.fuse_in.specs.declared.session.InHeader.{InHeader}
@@ -18,8 +18,8 @@ use Rattle.fuse_fs.specs.Calls.{FileCall, FileAnswer, AnswerForm, kind_of, suits
 use Rattle.fuse_fs.specs.Calls as call
 use Rattle.server_requests.specs.Reading.{Parsed, Sends, needs, record_parser, ◌>>◌}
 use Rattle.virtiofsd_fuse.specs.Grammar as grammar
-use Rattle.virtiofsd_fuse.specs.Grammar.{Meaning, Replies, Asks, FileCommand, One, Starts, Lists, Given, given, row, row_of}
-use Rattle.virtiofsd_fuse.specs.Grammar.{ended, meant, meaning, with_header}
+use Rattle.virtiofsd_fuse.specs.Grammar.{Meaning, Replies, Asks, FileCommand, One, Starts, Lists, Given, given, row, row_of, ended, meant}
+use Rattle.virtiofsd_fuse.specs.Grammar.{meaning, with_header}
 use Rattle.server_replies.specs.WholeReplies.{error_bytes, reply_bytes}
 use Rattle.server_calls.specs.Requests.{is_silent}
 use Rattle.virtiofsd_fuse.specs.Serving.{answer_bytes}
@@ -63,9 +63,6 @@ other_fits n o c a b without unique answer fits =
 pub not_true : {X : Type 0} → false ≡ true → X
 not_true e = absurd (cc)
 
-node_fits : (x : ℕ) → IsTrue (nat_lt x (2 ^ 64)) → x < 2 ^ 64
-node_fits x h = ltb-true x (2 ^ 64) h
-
 -- the nodes in the reply to an answer are its entries
 abbrev Counted : (node : ℕ) → Opcode → ℕ → FileCall → FileAnswer → Type 0
 Counted n o unique c a = count_by (λ k. k == n) (nodes_of o (drop 16 (answer_bytes unique c a))) ≡ entry_count n a
@@ -98,14 +95,9 @@ by_entry : (n : ℕ) (o : Opcode) (c : FileCall) (unique : ℕ) (a : FileAnswer)
     Counted n o unique c a
 by_entry n o c unique (call.Failed errno) begins reported kind no_bytes fits = failed_counts n o unique errno
 by_entry n o c unique (call.HasEntry e) begins reported kind no_bytes fits =
-    rw reported (entry_alone n o unique e begins (node_fits e.inode (rw kind at fits)))
+    rw reported (entry_alone n o unique e begins (ltb-true e.inode (2 ^ 64) (rw kind at fits)))
 by_entry n o c unique (call.Bytes bytes) begins reported kind no_bytes fits = not_true (sym (no_bytes bytes) ∙ fits)
 by_entry n o c unique _ begins reported kind no_bytes fits = not_true (rw kind at fits)
-
--- if both hold, the first does
-first_holds : (a b : Bool) → (a && b) ≡ true → a ≡ true
-first_holds true b both = refl
-first_holds false b both = both
 
 by_creation : (n : ℕ) (o : Opcode) (c : FileCall) (unique : ℕ) (a : FileAnswer) → replies_entry o ≡ true → is_silent c ≡ false →
     kind_of c ≡ call.IsCreate →
@@ -114,7 +106,7 @@ by_creation : (n : ℕ) (o : Opcode) (c : FileCall) (unique : ℕ) (a : FileAnsw
 by_creation n o c unique (call.Failed errno) begins reported kind no_bytes fits = failed_counts n o unique errno
 by_creation n o c unique (call.Created e handle options) begins reported kind no_bytes fits =
     rw reported (entry_counts n o unique e (spelled (open_out (open_out_of handle options))) begins
-    (node_fits e.inode (first_holds (nat_lt e.inode (2 ^ 64)) (call.is_handle handle) (rw kind at fits))))
+    (ltb-true e.inode (2 ^ 64) (and_parts (nat_lt e.inode (2 ^ 64)) (call.is_handle handle) (rw kind at fits)).0))
 by_creation n o c unique (call.Bytes bytes) begins reported kind no_bytes fits = not_true (sym (no_bytes bytes) ∙ fits)
 by_creation n o c unique _ begins reported kind no_bytes fits = not_true (rw kind at fits)
 

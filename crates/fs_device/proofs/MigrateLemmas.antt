@@ -1,7 +1,6 @@
 -- a machine that is moved
 use Rattle.std.proofs.Common.{◌≡◌, ◌^◌, ℕ, ◌+◌, ◌≤◌, ◌<◌, Bool, true, false, List, [], ◌∷◌, ◌++◌, map, length, drop, get_or, Option, Some}
-use Rattle.std.proofs.Common.{None, Ok, Err, inl, inr}
-use Rattle.std.proofs.Common.{refl, ap, sym, ◌∙◌, subst, append_assoc, append-nil, arith}
+use Rattle.std.proofs.Common.{None, Ok, Err, inl, inr, refl, ap, sym, ◌∙◌, subst, append_assoc, append-nil, arith}
 use Rattle.std.specs.Prelude.{if◌then◌else◌, slice_get, option_map, nat_le, Result, is_err, IfErr, IfOk, IfSome, IsTrue, OnOk}
 use Rattle.std.specs.List.{AllByRecursion, zip}
 use Rattle.std.proofs.lemmas.List.{drop_all, drop_more, length-map}
@@ -142,8 +141,7 @@ pub answered_put : (first now new whole : Host) (answers : List said.Answer) (i 
 answered_put first now new whole answers i a pages r lt is has outcome ok same left =
     let ps = map page_view pages in
     let rest = pages_of_answers (drop (i + 1) answers) in
-    let next = pages_from answers i a ps lt is has in
-    let there = subst (HavePlaces (lengths now)) next left.1 in
+    let there = subst (HavePlaces (lengths now)) (pages_from answers i a ps lt is has) left.1 in
     answered_next first now new whole answers i a ps lt is has
     (put_all r _ outcome (places_front (lengths now) ps rest 0 (there 0)) ok) same left
 
@@ -264,8 +262,7 @@ pub stays_after : {F : Type 0} (may : May F) (s here : State F) (copy : Host) (c
     RunsFromImage may s copy (until_harvest (with_answers cs answers) last) here →
     StaysHere may s (map command_of cs) (map answer_of answers) here
 stays_after may s here copy cs answers last count from =
-    let many = length-map answers answer_of ∙ count ∙ sym (length-map cs command_of) in
-    inr (many, copy, run.Pages last, from.run)
+    inr (length-map answers answer_of ∙ count ∙ sym (length-map cs command_of), copy, run.Pages last, from.run)
 
 pub both_ok : {X E : Type 0} {P Q R : X → Type 0} (r : Result X E) → ((x : X) → P x → Q x → R x) → IfOk r P → IfOk r Q → IfOk r R
 both_ok (Ok x) f p q = f x p q

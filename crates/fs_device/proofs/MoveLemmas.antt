@@ -1,7 +1,6 @@
 -- an image tracks the machine through a run
 use Rattle.std.proofs.Common.{◌≡◌, ℕ, zero, suc, Bool, true, false, List, [], ◌∷◌, ◌++◌, length, Option, Some, None, refl, ap, sym, ◌∙◌}
-use Rattle.std.proofs.Common.{subst, append-nil}
-use Rattle.std.specs.Prelude.{if◌then◌else◌, slice_get, not, IsTrue}
+use Rattle.std.proofs.Common.{if◌then◌else◌, slice_get, not, IsTrue, subst, append-nil}
 use Rattle.std.specs.List.{AllByRecursion, list_any, list_all, zip}
 use Rattle.std.proofs.lemmas.Grind.{flat_map-append}
 use Rattle.vm_iotlb.specs.declared.permissions.Permissions.TheVariants.{Read, Write}
@@ -9,26 +8,23 @@ use Rattle.vm_memory_core.specs.Host.{Host, Block, Place, cleared, lengths}
 use Rattle.vm_memory.specs.Layout.{Region, fits, overlap, is_region, place}
 use Rattle.vm_memory.specs.Memory.{Memory, addresses, for_io, location, physical, place_behind, reach, stored, stored_all, stored_at}
 use Rattle.vm_memory.specs.Memory.{table_of}
-use Rattle.fs_queue.specs.declared.fault.QueueError.TheVariants as stop
 use Rattle.fs_queue.specs.Queue.{Queue, fresh}
-use Rattle.fs_queue.specs.Taking.{Offer, IsRequest, CannotFetch, Refuses, Offers}
-use Rattle.fs_queue.specs.Taking as taking
 use Rattle.plain_machine.proofs.PlainPlaces.{IsPlain, plain_place}
 use Rattle.plain_machine.specs.Harvested.{Page, harvested}
 use Rattle.fs_device.specs.Applying.{first_refused, pages_put}
 use Rattle.fs_device.proofs.CatchUpLemmas.{Tracks, pages_put-append}
 use Rattle.fs_device.proofs.TrackLemmas.{HavePlaces, harvest_is_host, harvest_placed, harvest-lengths, places-append, stale_marked}
 use Rattle.fs_device.proofs.TrackLemmas.{tracks_copy, tracks_harvest, tracks_store, tracks-sized}
+use Rattle.plain_machine.proofs.UsedLemmas.{step_stores}
+use Rattle.fs_device.proofs.ReportingLemmas.{end_keeps}
 use Rattle.fs_record.proofs.ReadingLemmas.{one_reading}
 use Rattle.virtiofsd_fuse.specs.Serving.{May}
 use Rattle.plain_machine.specs.declared.error.DeviceError.{DeviceError}
-use Rattle.plain_machine.specs.declared.error.DeviceError.TheVariants as device
 use Rattle.plain_machine.specs.declared.refusal.Refusal.TheVariants as why
-use Rattle.plain_machine.specs.Step.{State, Exchange, Calls, Idle, Refused, Exchanged, Exchanges, StepOf}
+use Rattle.plain_machine.specs.Step.{State, Exchange, Calls, Step, Exchanged}
 use Rattle.plain_machine.specs.Run as run
-use Rattle.plain_machine.specs.Run.{Turns, Command, Answer, Effect, KickEnds, KickRun, Kicks, KickAnswer, HasEffect, Does, Performs}
-use Rattle.plain_machine.specs.Run.{RunReported, Affects, effect, insert}
-use Rattle.plain_machine.specs.Run.{insert_block, is_known, some_overlap, reset}
+use Rattle.plain_machine.specs.Run.{Turns, Command, Answer, Effect, KickRun, Kicks, KickAnswer, HasEffect, Does, Performs, RunReported}
+use Rattle.plain_machine.specs.Run.{Affects, effect, insert, insert_block, is_known, some_overlap, reset}
 use Rattle.fs_device.specs.Moving.{follows_image, made_over, pages_of_answer, pages_answered, HasItsMarks, IsStale, MovedIsLast, page_mark}
 use Rattle.fs_device.specs.Moving.{RunsFromImage}
 
@@ -60,53 +56,22 @@ stores_held image m (w ∷ ws) h = stores_held image (stored m w) ws (store_held
 abbrev HeldIn : {F : Type 0} → Host → State F → Type 0
 HeldIn image s = TracksOn image s.memory
 
-exchange_held : {F : Type 0} (may : May F) (image : Host) (s : State F) (i : ℕ) (q : Queue) (o : Offer) (calls : Calls) (x : Exchange)
-    (notice : Bool) (after : State F) →
-    Exchanges may s i q o calls x notice after → HeldIn image s → HeldIn image after
-exchange_held may image s i q (Offers head (CannotFetch fault)) calls x notice after r h =
-    subst (HeldIn image) (sym r.returns.state) (stores_held image s.memory _ h)
-exchange_held may image s i q (Offers head (IsRequest request room)) calls x notice after r h =
-    subst (HeldIn image) (sym r.returns.state) (stores_held image s.memory _ h)
-exchange_held may image s i q taking.Idle calls x notice after r h = absurd r
-exchange_held may image s i q (Refuses e) calls x notice after r h = absurd r
-
-step_held : {F : Type 0} (may : May F) (image : Host) (s : State F) (i : ℕ) (o : Option Queue) (calls : Calls) (x : Exchange)
-    (notice : Bool) (after : State F) →
-    StepOf may s i o calls (Exchanged x notice) after → HeldIn image s → HeldIn image after
-step_held may image s i None calls x notice after t h = absurd (cc)
-step_held may image s i (Some q) calls x notice after t h = exchange_held may image s i q _ calls x notice after t h
-
-idle_held : {F : Type 0} (may : May F) (image : Host) (s : State F) (i : ℕ) (o : Option Queue) (calls : Calls) (after : State F) →
-    StepOf may s i o calls Idle after → HeldIn image s → HeldIn image after
-idle_held may image s i None calls after t h = subst (HeldIn image) (sym t.1.same) h
-idle_held may image s i (Some q) calls after t h = subst (HeldIn image) (sym t.1.same) h
-
-refused_held :
-    {F : Type 0} (may : May F) (image : Host) (s : State F) (i : ℕ) (o : Option Queue) (calls : Calls) (e : DeviceError) (after : State F) →
-    StepOf may s i o calls (Refused e) after → HeldIn image s → HeldIn image after
-refused_held may image s i None calls e after t h = subst (HeldIn image) (sym t.1.same) h
-refused_held may image s i (Some q) calls device.NoSuchQueue after t h = absurd t
-refused_held may image s i (Some q) calls (device.Queue stop.OutOfMemory) after t h = subst (HeldIn image) (sym t.1.same) h
-refused_held may image s i (Some q) calls (device.Queue _) after t h = subst (HeldIn image) (sym t.2) h
+step_held : {F : Type 0} (may : May F) (image : Host) (s after : State F) (i : ℕ) (calls : Calls) (x : Exchange) (notice : Bool) →
+    Step may s i calls (Exchanged x notice) after → HeldIn image s → HeldIn image after
+step_held may image s after i calls x notice step h =
+    let by = step_stores may s after i calls x notice step in subst (TracksOn image) (sym by.1) (stores_held image s.memory by.0 h)
 
 -- ---- kicks
-
-end_held : {F : Type 0} (may : May F) (image : Host) (s : State F) (i most : ℕ) (refused : Option DeviceError) (after : State F) →
-    KickEnds may s i most refused after → HeldIn image s → HeldIn image after
-end_held may image s i zero None after same h = subst (HeldIn image) (sym same) h
-end_held may image s i zero (Some e) after t h = absurd t
-end_held may image s i (suc most) None after t h = idle_held may image s i (slice_get s.queues i) [] after t h
-end_held may image s i (suc most) (Some e) after t h = refused_held may image s i (slice_get s.queues i) [] e after t h
 
 kick_held :
     {F : Type 0} (may : May F) (image : Host) (s : State F) (i most : ℕ) (reported : Turns) (refused : Option DeviceError) (after : State F)
     → KickRun may s i most reported refused after → HeldIn image s → HeldIn image after
 unfolding KickRun
-kick_held may image s i most [] refused after t h = end_held may image s i most refused after t h
+kick_held may image s i most [] refused after t h = subst (TracksOn image) (sym (end_keeps may s i most refused after t)) h
 kick_held may image s i zero (x ∷ reported) refused after t h = absurd t
 kick_held may image s i (suc most) (x ∷ reported) refused after (mid, step, rest) h =
     kick_held may image mid i most reported refused after rest
-    (step_held may image s i (slice_get s.queues i) x.calls x.exchange x.notice mid step h)
+    (step_held may image s mid i x.calls x.exchange x.notice step h)
 
 kicks_held : {F : Type 0} (may : May F) (image : Host) (s : State F) (i most : ℕ) (o : Option Queue) (reported : Turns) (k : KickAnswer)
     (after : State F) →

@@ -1,13 +1,12 @@
 -- the nodes in the bytes of replies
-use Rattle.std.proofs.Common.{◌≡◌, ℕ, zero, suc, ◌+◌, ◌-◌, ◌^◌, ◌<◌, ◌≤◌, Bool, true, false, List, [], ◌∷◌, ◌++◌, length, take, drop}
-use Rattle.std.proofs.Common.{Option, Some, None, refl, ap, ◌∙◌}
-use Rattle.std.proofs.Common.{arith, length-append, append_assoc}
+use Rattle.std.proofs.Common.{◌≡◌, ℕ, suc, ◌+◌, ◌-◌, ◌^◌, ◌<◌, ◌≤◌, Bool, true, false, List, [], ◌∷◌, ◌++◌, length, take, drop, Option}
+use Rattle.std.proofs.Common.{Some, None, refl, ap, ◌∙◌, arith, length-append, append_assoc}
 use Rattle.std.specs.Prelude.{◌==◌, if◌then◌else◌, replicate, pos, nat_lt, nat_le}
 use Rattle.std.specs.Int.{w32, w64, to_le_bytes, from_le_bytes}
 use Rattle.std.proofs.lemmas.Bool.{leb-false, ltb-false}
 use Rattle.std.proofs.lemmas.Bool.Decides.{nat_tests}
 use Rattle.std.proofs.lemmas.Nat.{from_le_bytes-to_le_bytes_4, from_le_bytes-to_le_bytes_8}
-use Rattle.std.proofs.lemmas.List.{drop_at, length-replicate}
+use Rattle.std.proofs.lemmas.List.{drop_all, drop_at, length-replicate}
 use Rattle.vm_values.specs.Fields.{Field, q, field_bytes, spelled}
 use Rattle.vm_values.specs.UniqueProof.{then_is}
 use Rattle.fuse_wire.specs.declared.opcodes.Opcode.{Opcode}
@@ -30,19 +29,14 @@ drop_reply unique body =
     let header = spelled (out_header (record { len = 16 + length body; error = pos 0; unique = unique })) in
     drop_at header body 16 (length_header (record { len = 16 + length body; error = pos 0; unique = unique }))
 
-nothing_past : (bytes : List ℕ) (n : ℕ) → length bytes ≡ n → drop n bytes ≡ []
-nothing_past [] zero e = refl
-nothing_past (b ∷ bytes) (suc n) e = nothing_past bytes n (omega arith)
-nothing_past _ _ e = absurd (omega arith)
-
 pub drop_error : (unique errno : ℕ) → drop 16 (error_bytes unique errno) ≡ []
-drop_error unique errno = nothing_past (error_bytes unique errno) 16 (length_error unique errno)
+drop_error unique errno = drop_all 16 (error_bytes unique errno) (omega (arith, length_error unique errno))
 
 -- ---- which nodes are in it
 
-either_way : (b : Bool) (l : List ℕ) → (if b then l else l) ≡ l
-either_way true l = refl
-either_way false l = refl
+pub either_way : {A : Type 0} (b : Bool) (x : A) → (if b then x else x) ≡ x
+either_way true x = refl
+either_way false x = refl
 
 pub no_nodes : (o : Opcode) → replies_entry o ≡ false → lists_nodes o ≡ false → (body : List ℕ) → nodes_of o body ≡ []
 no_nodes o a b body = rw (a, b) (either_way (length body == 0) [])
@@ -70,9 +64,8 @@ number_front all n fs more is h = ap first_node (front_is all n fs more is) ∙ 
 longer_front : (all : List Field) (n : ℕ) (fs : List Field) (more : List ℕ) → all ≡ q n ∷ fs → 0 < length (spelled all ++ more)
 longer_front all n fs more is =
     let e : length (spelled all ++ more) ≡ length (to_le_bytes w64 n ++ (spelled fs ++ more)) = ap length (front_is all n fs more is) in
-    let l = length-append (to_le_bytes w64 n) (spelled fs ++ more) in
     let k : length (to_le_bytes w64 n) ≡ 8 = refl in
-    omega (arith, e, l, k)
+    omega (arith, e, length-append (to_le_bytes w64 n) (spelled fs ++ more), k)
 
 -- a reply that begins with an entry
 pub one_node : (o : Opcode) (all : List Field) (n : ℕ) (fs : List Field) (more : List ℕ) → all ≡ q n ∷ fs → replies_entry o ≡ true →
@@ -105,16 +98,12 @@ length_dirent d =
     let zeros : List ℕ = replicate (dirent_len (length d.name) - (24 + length d.name)) 0 in
     let all = length-append (spelled (dirent (dirent_of d))) (d.name ++ zeros) in
     let head : length (spelled (dirent (dirent_of d))) ≡ 24 = refl in
-    let behind = length-append d.name zeros in
     let filled : length zeros ≡ dirent_len (length d.name) - (24 + length d.name) =
     length-replicate (dirent_len (length d.name) - (24 + length d.name)) 0 in
-    omega (arith, all, head, behind, filled)
+    omega (arith, all, head, length-append d.name zeros, filled)
 
 pub length_entry : (e : Entry ℕ) (d : Listed) → length (entry_bytes true e d) ≡ entry_len true (length d.name)
-length_entry e d =
-    let a = length_node e in
-    let b = length_dirent d in
-    length-append (node_bytes e) (dirent_bytes d) ∙ omega (arith, a, b)
+length_entry e d = length-append (node_bytes e) (dirent_bytes d) ∙ omega (arith, length_node e, length_dirent d)
 
 name_len_there :
     (e : Entry ℕ) (d : Listed) (more : List ℕ) → length d.name < 2 ^ 32 → name_len_of (entry_bytes true e d ++ more) ≡ length d.name

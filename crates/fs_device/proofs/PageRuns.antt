@@ -1,9 +1,9 @@
 -- which pages the commands of a run mark
 use Rattle.std.proofs.Common.{◌≡◌, ℕ, zero, suc, Bool, true, false, List, [], ◌∷◌, ◌++◌, length, map, replicate, Option, Some, None, refl}
-use Rattle.std.proofs.Common.{ap, sym, ◌∙◌, subst, arith}
-use Rattle.std.specs.Prelude.{◌↔◌, ◌==◌, if◌then◌else◌, not, slice_get, option_map, option_and_then}
+use Rattle.std.proofs.Common.{◌↔◌, ◌==◌, if◌then◌else◌, not, slice_get, option_map, option_and_then, ap, sym, ◌∙◌, subst}
 use Rattle.std.specs.List.{list_any, list_all, zip}
 use Rattle.std.proofs.lemmas.Option.{slice_get-map}
+use Rattle.std.proofs.lemmas.Slice.Zip.{firsts-zip}
 use Rattle.vm_iotlb.specs.declared.permissions.Permissions.TheVariants.{Read, Write}
 use Rattle.vm_iotlb.specs.Table.{Table, nothing_mapped}
 use Rattle.vm_memory_core.specs.Host.{Host, Block, cleared, new_block, page_count, unmarked}
@@ -18,9 +18,8 @@ use Rattle.plain_machine.specs.declared.error.DeviceError.{DeviceError}
 use Rattle.plain_machine.specs.declared.refusal.Refusal.TheVariants as why
 use Rattle.plain_machine.specs.Step.{State}
 use Rattle.plain_machine.specs.Run as run
-use Rattle.plain_machine.specs.Run.{Turns, Command, Answer, Effect, ChangesTable, KickRun, Kicks, KickAnswer, HasEffect, Does}
-use Rattle.plain_machine.specs.Run.{Affects, effect}
-use Rattle.plain_machine.specs.Run.{insert_block, is_known, some_overlap, reset}
+use Rattle.plain_machine.specs.Run.{Turns, Command, Answer, Effect, ChangesTable, KickRun, Kicks, KickAnswer, HasEffect, Does, Affects}
+use Rattle.plain_machine.specs.Run.{effect, insert_block, is_known, some_overlap, reset}
 use Rattle.plain_machine.specs.MarkedPages.{Marks, KickWrites, ClearsMarks, KeepsMarks, DoneMarks, AnswerMarks, CommandsMark}
 use Rattle.fs_device.proofs.ReportingLemmas.{end_keeps}
 use Rattle.plain_machine.proofs.UsedLemmas.{exchange_returns, step_offers}
@@ -100,16 +99,11 @@ module _ {F : Type 0} (may : May F) where
 
 -- ---- what the other commands do
 
-firsts : (xs ys : List ℕ) → length xs ≡ length ys → map (λ (w : ℕ × ℕ). w.0) (zip xs ys) ≡ xs
-firsts [] [] e = refl
-firsts (x ∷ xs) (y ∷ ys) e = ap (λ (l : List ℕ). x ∷ l) (firsts xs ys (omega (arith, e)))
-firsts _ _ e = absurd (omega (arith, e))
-
 write_marks : (m : Memory) (a : ℕ) (bs : List ℕ) →
     Marks (physical m) (addresses a (length bs)) (stored_all (physical m) (zip (addresses a (length bs)) bs)).host
 write_marks m a bs =
     subst (λ (as' : List ℕ). Marks (physical m) as' (stored_all (physical m) (zip (addresses a (length bs)) bs)).host)
-    (firsts (addresses a (length bs)) bs (length-addresses (length bs) a))
+    (firsts-zip (addresses a (length bs)) bs (sym (length-addresses (length bs) a)))
     (writes_mark (physical m) (zip (addresses a (length bs)) bs))
 
 -- what an effect does to the marks

@@ -1,7 +1,6 @@
 -- A READ whose data was put where it goes.
 use Rattle.std.proofs.Common.{◌≡◌, ℕ, ◌+◌, ◌≤◌, ◌&&◌, nat_le, nat_lt, List, ◌++◌, length, map, take, drop, Ok, Err, None, refl, sym, ap}
-use Rattle.std.proofs.Common.{subst, ◌∙◌, arith, length-append, set, Some, Bool, true, false}
-use Rattle.std.specs.Prelude.{IsTrue, is_ok, if◌then◌else◌, slice_get}
+use Rattle.std.proofs.Common.{IsTrue, is_ok, if◌then◌else◌, slice_get, subst, ◌∙◌, arith, length-append, set, Some, Bool, true, false}
 use Rattle.std.proofs.lemmas.Bool.Decides.{nat_tests}
 use Rattle.std.proofs.lemmas.List.{length-drop, length-map}
 use Rattle.vm_memory_core.specs.Host.{Host, Place}
@@ -9,11 +8,10 @@ use Rattle.vm_memory_core.specs.Window.{byte_in, places, put_all}
 use Rattle.std.specs.List.{zip}
 use Rattle.vm_memory.specs.Memory.{Memory}
 use Rattle.fs_queue.specs.declared.chain.Chain.{Chain}
-use Rattle.fs_queue.specs.Windows.{Taken}
+use Rattle.fs_queue.specs.Windows.{Taken, HoldsChain, IsTaken, chain_places}
 use Rattle.fs_queue.specs.Queue.{Queue}
-use Rattle.fs_queue.specs.Taking.{RequestAndRoom}
-use Rattle.fs_queue.specs.Returning.{PutFrontLast}
-use Rattle.fs_queue.specs.Windows.{HoldsChain, IsTaken, chain_places}
+use Rattle.fs_queue.specs.Taking.{RequestAndRoom, room_of}
+use Rattle.fs_queue.specs.Returning.{PutFrontLast, advanced, returned, wants_notice}
 use Rattle.plain_machine.specs.Apart.{Apart}
 use Rattle.fs_device.specs.Behind.{HasBehind}
 use Rattle.plain_machine.specs.Fills.{Fills}
@@ -30,7 +28,7 @@ use Rattle.fuse_wire.specs.Opcodes.{opcode_of}
 use Rattle.server_segments.specs.declared.error.Error.TheVariants.{DecodeMessage}
 use Rattle.server_requests.specs.Reading.{Parsed, Parser, Faults, and_then, give, needs, record_parser, ◌>>=◌, ◌>>◌}
 use Rattle.virtiofsd_fuse.specs.Serving.{May, Handles, ServerHandles, setting}
-use Rattle.plain_machine.specs.Step.{Calls}
+use Rattle.plain_machine.specs.Step.{Calls, Exchange}
 use Rattle.fs_device.specs.DeviceView.{AnswersRequest, ServesChain, request_of, server_state, state_of}
 use Rattle.fs_device.specs.ReplyFront.{AnswersAt, AnswersFront, front_bytes}
 use Rattle.fs_device.specs.declared.reply_front.PreparedReply.{PreparedReply}
@@ -38,9 +36,6 @@ use Rattle.fs_device.specs.declared.reply_front.ReplyFront.TheVariants.{Header}
 use Rattle.fs_device.specs.declared.returned.Returned.{Returned}
 use Rattle.fs_device.specs.DevicePartsView.{DeviceParts}
 use Rattle.fs_device.specs.Returned.{StepReported}
-use Rattle.plain_machine.specs.Step.{Exchange}
-use Rattle.fs_queue.specs.Returning.{advanced, returned, wants_notice}
-use Rattle.fs_queue.specs.Taking.{room_of}
 use Rattle.fs_device.specs.Phases.{HasTaken}
 use Rattle.fs_device.specs.ShortWay.{HoldARead, ReadsInPlace}
 use Rattle.fs_device.proofs.AnsweringLemmas.{request_held, reported_step}

@@ -1,7 +1,6 @@
 -- the file calls of a run
 use Rattle.std.proofs.Common.{◌≡◌, ℕ, zero, suc, Bool, true, false, List, [], ◌∷◌, ◌++◌, map, length, Option, Some, None, refl, ap, sym}
-use Rattle.std.proofs.Common.{◌∙◌, subst}
-use Rattle.std.specs.Prelude.{if◌then◌else◌, slice_get, not, IfSome, ◌==◌}
+use Rattle.std.proofs.Common.{if◌then◌else◌, slice_get, not, IfSome, ◌==◌, ◌∙◌, subst}
 use Rattle.std.specs.List.{AllByRecursion, list_any, list_all}
 use Rattle.vm_iotlb.specs.declared.permissions.Permissions.TheVariants.{Read, Write}
 use Rattle.vm_iotlb.specs.Table.{Table, nothing_mapped}
@@ -75,7 +74,7 @@ step_reports may s i None calls x notice after t = absurd (cc)
 step_reports may s i (Some q) calls x notice after t = exchange_reports may s i q _ calls x notice after t
 
 -- what an idle step, a refusal and the end of a kick don't change: the memory and the files
-abbrev preserved_of : {F : Type 0} → State F → Memory × F
+abbrev pub preserved_of : {F : Type 0} → State F → Memory × F
 preserved_of s = (s.memory, s.files)
 
 idle_leaves : {F : Type 0} (may : May F) (s : State F) (i : ℕ) (o : Option Queue) (calls : Calls) (after : State F) →
@@ -83,7 +82,8 @@ idle_leaves : {F : Type 0} (may : May F) (s : State F) (i : ℕ) (o : Option Que
 idle_leaves may s i None calls after t = ap preserved_of t.1.same
 idle_leaves may s i (Some q) calls after t = ap preserved_of t.1.same
 
-refused_leaves : {F : Type 0} (may : May F) (s : State F) (i : ℕ) (o : Option Queue) (calls : Calls) (e : DeviceError) (after : State F) →
+pub refused_leaves :
+    {F : Type 0} (may : May F) (s : State F) (i : ℕ) (o : Option Queue) (calls : Calls) (e : DeviceError) (after : State F) →
     StepOf may s i o calls (Refused e) after → preserved_of after ≡ preserved_of s
 refused_leaves may s i None calls e after t = ap preserved_of t.1.same
 refused_leaves may s i (Some q) calls device.NoSuchQueue after t = absurd t

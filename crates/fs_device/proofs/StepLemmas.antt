@@ -1,7 +1,8 @@
 -- a step of one queue is a step of the device
-use Rattle.std.proofs.Common.{◌≡◌, ℕ, Bool, true, false, zero, suc, List, [], ◌∷◌, set, refl, ap, sym, ◌∙◌, subst, length, Option, Some}
-use Rattle.std.proofs.Common.{None, Ok, Err}
-use Rattle.std.specs.Prelude.{slice_get}
+use Rattle.std.proofs.Common.{◌≡◌, ℕ, Bool, true, false, List, [], set, refl, ap, sym, ◌∙◌, subst, length, Option, Some, slice_get, None}
+use Rattle.std.proofs.Common.{Ok, Err}
+use Rattle.std.proofs.lemmas.List.{set-get_or}
+use Rattle.std.proofs.lemmas.Option.{get_or_from_slice_get}
 use Rattle.vm_memory_core.specs.Host.{changed_at}
 use Rattle.vm_memory.specs.Memory.{Memory}
 use Rattle.fs_queue.specs.declared.fault.QueueError.{QueueError}
@@ -23,9 +24,8 @@ use Rattle.vm_memory_core.proofs.Stores.{changed_at-set}
 
 -- a queue that goes on by one chain is set among the others
 advanced_at : (l : List Queue) (i : ℕ) (p q : Queue) → slice_get l i ≡ Some p → q ≡ advanced p → set l i q ≡ changed_at l i advanced
-advanced_at [] i p q there is = refl
-advanced_at (x ∷ l) zero p q there is = let same : x ≡ p = cc in ap (λ (y : Queue). y ∷ l) (is ∙ ap advanced (sym same))
-advanced_at (x ∷ l) (suc i) p q there is = ap (λ (r : List Queue). x ∷ r) (advanced_at l i p q there is)
+advanced_at l i p q there is =
+    ap (set l i) (is ∙ ap advanced (sym (get_or_from_slice_get l i p p there))) ∙ sym (changed_at-set l i advanced p)
 
 -- a place that a queue left empty is one that the device did
 pub empty_unless_taken : (t : Taken) (waits : Bool) → queue.IsEmptyUnlessTaken (Ok waits) t → IsEmptyUnlessDeviceTook (Ok waits) t
@@ -33,9 +33,7 @@ empty_unless_taken t true is = tt
 empty_unless_taken t false is = is
 
 pub set-same : (l : List Queue) (i : ℕ) (q : Queue) → slice_get l i ≡ Some q → set l i q ≡ l
-set-same [] i q e = refl
-set-same (x ∷ l) zero q e = let is : x ≡ q = cc in ap (λ (y : Queue). y ∷ l) (sym is)
-set-same (x ∷ l) (suc i) q e = ap (λ (r : List Queue). x ∷ r) (set-same l i q e)
+set-same l i q e = ap (set l i) (sym (get_or_from_slice_get l i q q e)) ∙ set-get_or l i q
 
 -- what never changes: the longest request, and the size of a page
 pub record Fixed : Type 0 where

@@ -4,7 +4,7 @@ use Rattle.std.proofs.Common.{get_or, set, refl, ap, sym, ◌∙◌, subst, arit
 use Rattle.std.specs.Prelude.{◌≢◌, slice_get, slice_range, option_and_then}
 use Rattle.std.specs.List.{AllByRecursion}
 use Rattle.std.proofs.lemmas.List.{length-map, length-set, length-take, get_or-set_same, get_or-set_other, length_push, set_past}
-use Rattle.std.proofs.lemmas.Bool.{cases_lt, cases_eq, le-leb}
+use Rattle.std.proofs.lemmas.Bool.{cases_lt, cases_eq, le-leb, true_from_ne_false}
 use Rattle.std.proofs.lemmas.Option.{slice_get-get_or, slice_get_past}
 use Rattle.vm_memory_core.specs.Host.{Block, Host, Shape, Place, IoAddress, byte_at, changed_at, cleared, lengths, marked, page_count}
 use Rattle.vm_memory_core.specs.Host.{unmarked, with_byte, with_mark_by}
@@ -103,8 +103,7 @@ block_stored a b o byte f =
           ⊎_elim
           (λ (h : i ≡ o).
           let past = was.1 (ap (λ k. k / 4096) (sym h)) in
-          let all = f.sized in
-          let none : length b.bytes ≤ o = omega (arith, past, all) in
+          let none : length b.bytes ≤ o = omega (arith, past, f.sized) in
           f.same i was.0 ∙ ap (λ (l : List ℕ). get_or l i 0) (sym (set_past b.bytes o byte none)))
           (λ (h : i ≡ o → ⊥). f.same i was.0 ∙ sym (get_or-set_other b.bytes o i byte 0 h))
           (cases_eq i o);
@@ -130,19 +129,12 @@ block_stale : (a b : Block) (o : ℕ) → BlockTracks a b → slice_get a.bytes 
 block_stale a b o f stale =
     ⊎_elim
     (λ (h : o < length b.bytes).
-    let all = f.sized in
-    let len = f.len in
-    let there = slice_get-get_or b.marks (o / 4096) false (omega (arith, h, all)) in
-    there ∙ ap Some (is_true (get_or b.marks (o / 4096) false) (λ e.
-    stale (slice_get-get_or a.bytes o 0 (omega (arith, h, len)) ∙ ap Some (f.same o e) ∙ sym (slice_get-get_or b.bytes o 0 h)))))
+    slice_get-get_or b.marks (o / 4096) false (omega (arith, h, f.sized))
+    ∙ ap Some (true_from_ne_false (get_or b.marks (o / 4096) false) (λ e.
+    stale (slice_get-get_or a.bytes o 0 (omega (arith, h, f.len)) ∙ ap Some (f.same o e) ∙ sym (slice_get-get_or b.bytes o 0 h)))))
     (λ (h : length b.bytes ≤ o).
-    let len = f.len in
-    absurd (stale (slice_get_past a.bytes o (omega (arith, h, len)) ∙ sym (slice_get_past b.bytes o h))))
+    absurd (stale (slice_get_past a.bytes o (omega (arith, h, f.len)) ∙ sym (slice_get_past b.bytes o h))))
     (cases_lt o (length b.bytes))
-  where
-    is_true : (m : Bool) → (m ≡ false → ⊥) → m ≡ true
-    is_true true h = refl
-    is_true false h = absurd (h refl)
 
 blocks_stale : (xs ys : List Block) (i o : ℕ) → BlocksTrack xs ys →
     option_and_then (λ (b : Block). slice_get b.bytes o) (slice_get xs i)

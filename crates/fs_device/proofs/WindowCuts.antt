@@ -1,6 +1,6 @@
 -- A list of windows that is cut at a place.
-use Rattle.std.proofs.Common.{◌≡◌, ℕ, ◌+◌, ◌-◌, ◌≤◌, min, List, [], ◌∷◌, ◌++◌, length, map, take, drop, append_assoc, append-nil, refl, sym}
-use Rattle.std.proofs.Common.{ap, ◌∙◌, arith, ⊎_elim, ◌<◌}
+use Rattle.std.proofs.Common.{◌≡◌, ℕ, ◌+◌, ◌-◌, ◌≤◌, min, List, ◌∷◌, ◌++◌, length, map, take, drop, append_assoc, append-nil, refl, sym, ap}
+use Rattle.std.proofs.Common.{◌∙◌, arith, ⊎_elim, ◌<◌}
 use Rattle.std.proofs.lemmas.List.{drop-append-le, drop-map, drop_all, map-append, take-append-le, take-map, take_all}
 use Rattle.std.proofs.lemmas.Bool.{cases_lt}
 use Rattle.std.proofs.Math.Seq.{drop-append-add, take-append-add}
@@ -43,8 +43,7 @@ pub front_more :
     piece ≡ take k (map (byte_in h) (places_of w)) → new ≡ old ++ piece →
     new ++ map (byte_in h) (take (n - k) (places (drop (i + 1) ws))) ≡ old ++ map (byte_in h) (take n (places (drop i ws)))
 front_more h ws i n k w old piece new next is p e =
-    let count = length-span w.len w.block w.offset w.io in
-    let m : k ≡ min (length (places_of w)) n = omega (arith, is, count) in
+    let m : k ≡ min (length (places_of w)) n = omega (arith, is, length-span w.len w.block w.offset w.io) in
     let cut : take n (places (drop i ws)) ≡ take k (places_of w) ++ take (n - k) (places (drop (i + 1) ws)) =
     ap (λ l. take n (places l)) next ∙ take_both (places_of w) (places (drop (i + 1) ws)) n k (n - k) m refl in
     ap (λ l. l ++ map (byte_in h) (take (n - k) (places (drop (i + 1) ws))))
@@ -64,17 +63,12 @@ copy_more h ws i n k done w old new piece next is long fits p e =
     (ap (take (done + k)) e ∙ take-put old piece done k (sym long) fits)
 
 -- one segment more
-pub joined_more : (xs : List (Bor (List ℕ))) (s : Bor (List ℕ)) → joined (xs ++ s ∷ []) ≡ joined xs ++ s.now
-joined_more [] s = append-nil s.now
-joined_more (x ∷ xs) s = ap (λ l. x.now ++ l) (joined_more xs s) ∙ sym (append_assoc x.now (joined xs) s.now)
-
 pub segment_there : (h : Host) (ws : List Window) (i n k : ℕ) (w : Window) (old new : List (Bor (List ℕ))) →
     drop i ws ≡ w ∷ drop (i + 1) ws → k ≡ min n w.len →
     joined new ≡ joined old ++ drop k (map (byte_in h) (places_of w)) →
     joined new ++ map (byte_in h) (drop (n - k) (places (drop (i + 1) ws))) ≡ joined old ++ map (byte_in h) (drop n (places (drop i ws)))
 segment_there h ws i n k w old new next is e =
-    let count = length-span w.len w.block w.offset w.io in
-    let m : k ≡ min n (length (places_of w)) = omega (arith, is, count) in
+    let m : k ≡ min n (length (places_of w)) = omega (arith, is, length-span w.len w.block w.offset w.io) in
     let cut : drop n (places (drop i ws)) ≡ drop k (places_of w) ++ drop (n - k) (places (drop (i + 1) ws)) =
     ap (λ l. drop n (places l)) next ∙ drop_both (places_of w) (places (drop (i + 1) ws)) n k (n - k) m refl in
     ap (λ l. l ++ map (byte_in h) (drop (n - k) (places (drop (i + 1) ws))))

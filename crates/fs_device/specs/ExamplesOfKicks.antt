@@ -1,6 +1,5 @@
 -- Worked kicks that compute: refusals, several chains, the accounts of nodes, and replies that do not fit.
-use Rattle.std.specs.Prelude.{◌≡◌, ℕ, ◌+◌, true, false, List, [], ◌∷◌, ◌++◌, zip, refl}
-use Rattle.std.specs.Prelude.{Some, None}
+use Rattle.std.specs.Prelude.{◌≡◌, ℕ, ◌+◌, true, false, List, [], ◌∷◌, ◌++◌, zip, refl, Some, None}
 use Rattle.vm_memory.specs.Layout.{place}
 use Rattle.vm_memory.specs.Memory.{Memory, addresses, stored_all}
 use Rattle.fs_queue.specs.declared.fault.QueueError.TheVariants as queue_error
@@ -25,8 +24,7 @@ use Rattle.plain_machine.specs.declared.fault.Fault.TheVariants as fault
 use Rattle.plain_machine.specs.declared.refusal.Refusal.TheVariants as why
 use Rattle.plain_machine.specs.Step.{State, Exchange, Exchanged, Step, after_return}
 use Rattle.plain_machine.specs.Run as run
-use Rattle.plain_machine.specs.Run.{Turn, Affects, Run, RunReported, KickRun}
-use Rattle.plain_machine.specs.Run.{command_takes_memory, effect}
+use Rattle.plain_machine.specs.Run.{Turn, Affects, Run, RunReported, KickRun, command_takes_memory, effect}
 use Rattle.fs_device.specs.Books.{answered, sent, written, accepted, nodes_listed}
 use Rattle.plain_machine.specs.Examples.{blank, queue, put, descriptor_bytes, request, with_one_request}
 use Rattle.plain_machine.specs.Examples.{Nothing, may, device, unknown_reply, unknown_exchange, after_reply}

@@ -1,6 +1,5 @@
 -- Worked examples that compute: the length in a reply's header, and the pages that writes mark.
-use Rattle.std.specs.Prelude.{◌≡◌, ℕ, Bool, true, false, List, [], ◌∷◌, refl}
-use Rattle.std.specs.Prelude.{Option, Some, None}
+use Rattle.std.specs.Prelude.{◌≡◌, ℕ, Bool, true, false, List, [], ◌∷◌, refl, Option, Some, None}
 use Rattle.vm_iotlb.specs.declared.permissions.Permissions.TheVariants.{ReadWrite}
 use Rattle.vm_iotlb.specs.Ranges.{table_held}
 use Rattle.vm_memory_core.specs.Host.{Host, new_block}

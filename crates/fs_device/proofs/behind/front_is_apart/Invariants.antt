@@ -1,5 +1,4 @@
-use Rattle.std.proofs.Common.{◌≤◌, length, drop, take}
-use Rattle.std.specs.Prelude.{◌↔◌}
+use Rattle.std.proofs.Common.{◌≤◌, length, drop, take, ◌↔◌}
 use Rattle.vm_memory_core.specs.Window.{places}
 use Rattle.plain_machine.specs.Apart.{Apart}
 use Rattle.fs_device.proofs.behind.front_is_apart.Given as goal

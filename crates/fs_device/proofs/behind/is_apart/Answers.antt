@@ -1,5 +1,4 @@
-use Rattle.std.proofs.Common.{◌≡◌, ◌<◌, ◌∙◌, false, true, List, ap, arith, drop, refl, subst, sym}
-use Rattle.std.specs.Prelude.{◌↔◌}
+use Rattle.std.proofs.Common.{◌≡◌, ◌<◌, ◌∙◌, false, true, List, ap, arith, drop, refl, subst, sym, ◌↔◌}
 use Rattle.vm_memory_core.specs.Host.{Place}
 use Rattle.vm_memory_core.specs.Window.{places, places_of}
 use Rattle.plain_machine.specs.Apart.{Apart, are_apart}

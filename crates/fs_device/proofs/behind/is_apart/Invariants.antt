@@ -1,5 +1,4 @@
-use Rattle.std.proofs.Common.{length, drop}
-use Rattle.std.specs.Prelude.{◌↔◌}
+use Rattle.std.proofs.Common.{length, drop, ◌↔◌}
 use Rattle.vm_memory_core.specs.Window.{places, places_of}
 use Rattle.plain_machine.specs.Apart.{Apart}
 use Rattle.fs_device.proofs.behind.is_apart.Given as goal

@@ -10,7 +10,6 @@ loop-window-preserved g c =
     let ws = c.args.windows.now in
     let w = c.window-item.result in
     let next = drop_item ws l.window-index w c.loop-window-test.true c.window-item.is in
-    let n = length-places_step ws l.window-index w next in
     let size = c.put_at.ensures.len in
     let k = c.min-count.result in
     let is : k ≡ min w.len (length l.buffer - l.done) = omega (arith, c.min-count.ensures, c.bytes-bytes.ensures.len) in
@@ -23,6 +22,6 @@ loop-window-preserved g c =
     record {
       size = size ∙ l.invariant.size;
       within = omega (arith, size, is, l.invariant.within);
-      enough = omega (arith, rest, is, n, l.invariant.enough);
+      enough = omega (arith, rest, is, length-places_step ws l.window-index w next, l.invariant.enough);
       got = rw (rest, size) (more ∙ l.invariant.got);
     }

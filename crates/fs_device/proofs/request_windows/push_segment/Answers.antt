@@ -1,6 +1,6 @@
 use Rattle.std.proofs.Common.{◌∙◌, ap}
 use Rattle.server_segments.specs.Segments.{joined}
-use Rattle.fs_device.proofs.WindowCuts.{joined_more}
+use Rattle.server_segments.proofs.Cutting.{joined_more}
 use Rattle.fs_device.proofs.request_windows.push_segment.Goals as goal
 
 pub returns-clause-joined : goal.returns-clause-joined

@@ -1,5 +1,4 @@
-use Rattle.std.proofs.Common.{◌≡◌, ◌∙◌, ℕ, List, ap, arith, length, map, refl, sym}
-use Rattle.std.specs.Prelude.{min}
+use Rattle.std.proofs.Common.{◌≡◌, ◌∙◌, ℕ, List, ap, arith, length, map, refl, sym, min}
 use Rattle.vm_memory_core.specs.Window.{byte_in, places}
 use Rattle.virtiofsd_fuse.specs.Grammar.{meaning}
 use Rattle.fs_device.proofs.AnsweringLemmas.{front_is_all}

@@ -1,5 +1,4 @@
-use Rattle.std.proofs.Common.{◌≡◌, Some, ap, length, vec_len, arith, ◌∙◌}
-use Rattle.std.specs.Prelude.{slice_get}
+use Rattle.std.proofs.Common.{◌≡◌, Some, ap, length, vec_len, arith, ◌∙◌, slice_get}
 use Rattle.fs_queue.specs.Queue.{Queue}
 use Rattle.fs_queue.specs.ReturningView.{put_back}
 use Rattle.std.proofs.lemmas.Option.{slice_get_read}

@@ -36,13 +36,12 @@ pub returns-in-Ok-insert_region : goal.returns-in-Ok-insert_region
 unfolding effect
 returns-in-Ok-insert_region g c =
     let m = c.in-Some.region in
-    let new = c.in-Ok.ensures.ok in
     let is = within c.args.base m c.in-Some-new.region c.in-Some-new.ensures in
     rw (
       known (machine_of c.args.self.now) c.args.base c.args.block m c.in-Some.ensures,
       is.0,
       is.1,
-      ← new,
+      ← c.in-Ok.ensures.ok,
       ← c.get_backend-2.ensures,
       c.in-Ok-insert_region.ensures.0,
       c.set_backend.ensures,
