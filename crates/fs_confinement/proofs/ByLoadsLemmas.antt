@@ -1,12 +1,10 @@
 -- a queue reads for an offer just where its loads came
 use Rattle.std.proofs.Common.{◌≡◌, ℕ, zero, suc, ◌+◌, ◌%◌, ◌-◌, ◌^◌, ◌<◌, ◌≤◌, Bool, true, false, ◌&&◌, not, List, [], ◌∷◌, ◌++◌, map}
-use Rattle.std.proofs.Common.{length, Option, Some, None, refl}
-use Rattle.std.proofs.Common.{ap, sym, ◌∙◌, subst, arith, append-nil, append_assoc}
+use Rattle.std.proofs.Common.{length, Option, Some, None, refl, ap, sym, ◌∙◌, subst, arith, append-nil, append_assoc}
 use Rattle.std.specs.Prelude.{◌==◌, ◌||◌, nat_lt, nat_le, is_some, if◌then◌else◌, option_map, option_and_then, flat_map}
 use Rattle.std.specs.Int.{w16, from_le_bytes}
 use Rattle.std.specs.List.{list_all}
 use Rattle.std.proofs.lemmas.Bool.{and_parts, eqb-true, lt-ltb, ltb-true}
-use Rattle.std.proofs.lemmas.List.{map-append}
 use Rattle.vm_iotlb.specs.declared.permissions.Permissions.TheVariants.{Read, Write}
 use Rattle.vm_memory.specs.Memory.{Memory, addresses, byte, bytes, location, number, reach}
 use Rattle.fs_queue.specs.declared.fault.ChainFault.{ChainFault}
@@ -21,8 +19,7 @@ use Rattle.fs_queue.specs.Chain.{after_walk_step, Found, IsChain, HasFault, Stop
 use Rattle.fs_queue.specs.Taking.{IsRequest, CannotFetch, readable, writable, total_len, all_reach, Offer, Idle, Refuses, Offers, offer_of}
 use Rattle.fs_queue.specs.Taking.{offer, addresses_of}
 use Rattle.fs_queue.specs.Loads.{Load, Ahead, Reads, Ends, holding, reads_entry, step_by, ahead_at, ahead_after, ahead_of_next, is_whole}
-use Rattle.fs_queue.specs.Loads.{found_exactly, chain_exactly}
-use Rattle.fs_queue.specs.Loads.{index_load, entry_load, asks_entry, IsEntryOf, AreEntriesOf, IsLoadOf}
+use Rattle.fs_queue.specs.Loads.{found_exactly, chain_exactly, index_load, entry_load, asks_entry, IsEntryOf, AreEntriesOf, IsLoadOf}
 use Rattle.fs_queue.specs.OfferLoads.{without_request, without_chain, without_loads, without_entry, available_by, with_request, with_loaded}
 use Rattle.fs_queue.specs.OfferLoads.{on_waits}
 use Rattle.fs_queue.proofs.BoundLemmas.{walks_end}
@@ -31,6 +28,7 @@ use Rattle.fs_queue.proofs.OfferByLemmas.{offer_is_still}
 use Rattle.fs_queue.proofs.ReadLemmas.{length-bytes}
 use Rattle.fs_queue.proofs.RingLemmas.{IsPair, pick, index_lost, index_reports, entry_reports, ring_is_still}
 use Rattle.fs_queue.proofs.StillLemmas.{IsSound, sound_at, sound_next, outside, mapped, still_exactly}
+use Rattle.fs_queue.proofs.TakeLemmas.{bytes-addresses_of}
 use Rattle.fs_confinement.specs.ReadSet.{ring_reads, entry_reads, walk_reads, request_reads, chain_reads, waiting_reads}
 use Rattle.fs_confinement.specs.ByLoads.{came_at, all_came, request_addresses, request_came, WalksReadTheirLoads, OffersReadTheirLoads}
 
@@ -247,11 +245,6 @@ ring_came m q index entry w is es e =
 
 -- ---- the request
 
-flat_bytes : (m : Memory) (ds : List Descriptor) → flat_map (λ d. bytes m d.addr d.len) ds ≡ map (byte m) (addresses_of ds)
-flat_bytes m [] = refl
-flat_bytes m (d ∷ ds) = ap (λ (bs : List ℕ). bytes m d.addr d.len ++ bs) (flat_bytes m ds)
-    ∙ sym (map-append (byte m) (addresses d.addr d.len) (addresses_of ds))
-
 no_addresses : (m : Memory) (as' : List ℕ) → (length {A = ℕ} [] == length (map (byte m) as')) ≡ true → as' ≡ []
 no_addresses m [] e = refl
 no_addresses m (a ∷ as') e =
@@ -316,7 +309,7 @@ module _ (m : Memory) (q : Queue) (head : ℕ) (ls : List Load) where
       fetched_came request (flat_map (λ d. bytes m d.addr d.len) (readable ds)) ds (flat_map (λ d. addresses d.addr d.len) (writable ds)) o
       (nat_lt limit (total_len (readable ds)) || nat_lt limit (total_len (writable ds))) (not (all_reach m Read (readable ds)))
       (not (all_reach m Write (writable ds))) walked is exact
-      (flat_bytes m (readable ds)) e
+      (bytes-addresses_of m (readable ds)) e
   found_came limit request (HasFault fault) o walked is exact e = faulty_came request fault o walked e
   found_came limit [] StopsQueue o walked is exact e =
       let same : Refuses stop.DescriptorUnreachable ≡ o = cc in subst (Came []) same (walk_alone walked)

@@ -1,34 +1,31 @@
 -- a block that no region shows is touched by no run
-use Rattle.std.proofs.Common.{◌≡◌, ℕ, zero, suc, Bool, true, false, not, ◌&&◌, ◌||◌, List, [], ◌∷◌, ◌++◌, map, length, Option, Some, None}
-use Rattle.std.proofs.Common.{refl, ap, sym, ◌∙◌, subst, ⊎_elim}
+use Rattle.std.proofs.Common.{◌≡◌, ℕ, zero, suc, Bool, true, false, not, List, [], ◌∷◌, ◌++◌, map, length, Option, Some, None, refl, ap}
+use Rattle.std.proofs.Common.{sym, ◌∙◌, subst, ⊎_elim}
 use Rattle.std.specs.Prelude.{◌==◌, ◌≢◌, IsTrue, if◌then◌else◌, slice_get, nat_lt, zip, Result, Ok, Err, IfOk}
 use Rattle.std.specs.List.{filter, list_all, list_any}
 use Rattle.std.specs.Option.{option_or}
-use Rattle.std.proofs.lemmas.Bool.{cases_eq}
+use Rattle.std.proofs.lemmas.Bool.{and_from, and_left, and_parts, cases_eq, or_from, or_parts, true≢false}
 use Rattle.std.proofs.lemmas.List.Folds.{list_any-append}
+use Rattle.std.proofs.lemmas.Slice.Zip.{firsts-zip}
 use Rattle.vm_iotlb.specs.declared.permissions.Permissions.{Permissions}
 use Rattle.vm_iotlb.specs.declared.permissions.Permissions.TheVariants.{Read, Write}
 use Rattle.vm_iotlb.specs.Table.{Mapping, Table, allows, is_within, nothing_mapped}
 use Rattle.vm_memory_core.specs.Host.{Block, Place}
 use Rattle.vm_memory.specs.Layout.{Region, fits, overlap, is_region, place, with_region}
-use Rattle.vm_memory.specs.Memory.{Memory, addresses, for_io, location, physical, place_behind, reach, stored, stored_all, stored_at}
-use Rattle.vm_memory.specs.Memory.{table_of}
-use Rattle.fs_queue.specs.declared.fault.QueueError.TheVariants as stop
+use Rattle.vm_memory.specs.Memory.{Memory, addresses, for_io, location, physical, place_behind, reach, table_of}
 use Rattle.fs_queue.specs.Queue.{Queue, fresh}
-use Rattle.fs_queue.specs.Taking.{Offer, IsRequest, CannotFetch, Refuses, Offers}
-use Rattle.fs_queue.specs.Taking as taking
 use Rattle.virtiofsd_fuse.specs.Serving.{May}
 use Rattle.plain_machine.specs.declared.error.DeviceError.{DeviceError}
-use Rattle.plain_machine.specs.declared.error.DeviceError.TheVariants as device
 use Rattle.plain_machine.specs.declared.refusal.Refusal.TheVariants as why
-use Rattle.plain_machine.specs.Step.{State, Exchange, Calls, Idle, Refused, Exchanged, Exchanges, StepOf, StepEnd}
+use Rattle.plain_machine.specs.Step.{State, Exchange, Calls, Step, Idle, Refused, Exchanged, StepEnd}
 use Rattle.plain_machine.specs.Run as run
-use Rattle.plain_machine.specs.Run.{Turns, Command, Answer, Effect, KickEnds, KickRun, Kicks, KickAnswer, HasEffect, Does, Performs, Run}
-use Rattle.plain_machine.specs.Run.{RunReported, Affects, effect}
-use Rattle.plain_machine.specs.Run.{insert, insert_block, is_known, some_overlap, reset}
-use Rattle.fs_confinement.specs.ReadSet.{place_if, places_for, is_at, is_among, Touched, nothing, and_then, step_touches}
-use Rattle.fs_confinement.specs.ReadSet.{end_touches, kick_touches, kicks_touch, guest_reads, guest_writes, plain_touches, command_touches}
-use Rattle.fs_confinement.specs.ReadSet.{run_touches}
+use Rattle.plain_machine.specs.Run.{Turns, Command, Answer, Effect, KickRun, Kicks, KickAnswer, HasEffect, Does, Performs, Run, RunReported}
+use Rattle.plain_machine.specs.Run.{Affects, effect, insert, insert_block, is_known, some_overlap, reset}
+use Rattle.plain_machine.proofs.PageLemmas.{ways_stay}
+use Rattle.plain_machine.proofs.UsedLemmas.{step_stores}
+use Rattle.fs_device.proofs.ReportingLemmas.{end_keeps}
+use Rattle.fs_confinement.specs.ReadSet.{place_if, places_for, is_at, is_among, Touched, nothing, and_then, step_touches, end_touches}
+use Rattle.fs_confinement.specs.ReadSet.{kick_touches, kicks_touch, guest_reads, guest_writes, plain_touches, command_touches, run_touches}
 use Rattle.fs_confinement.specs.Confinement.{copies, copies_nothing, AgreeOn}
 use Rattle.fs_confinement.specs.Hidden.{is_of, leaves_hidden, IsHidden, DifferInBlock, TouchesNothingOf, HiddenBlocksAreSecret, KeepsSecret}
 
@@ -42,27 +39,15 @@ in_block block ps = list_any (λ p. p.block == block) ps
 abbrev Hides : (block : ℕ) → List Region → Type 0
 Hides block layout = list_any (is_of block) layout ≡ false
 
-or_false : (a b : Bool) → a ≡ false → b ≡ false → (a || b) ≡ false
-or_false false b p q = q
-or_false true b p q = absurd (cc)
-
-parts_false : (a b : Bool) → (a || b) ≡ false → (a ≡ false) × (b ≡ false)
-parts_false true b e = absurd (cc)
-parts_false false b e = (refl, e)
-
 out-append : (block : ℕ) (ps qs : List Place) → in_block block ps ≡ false → in_block block qs ≡ false → in_block block (ps ++ qs) ≡ false
-out-append block ps qs p q = list_any-append (λ (p : Place). p.block == block) ps qs ∙ or_false (in_block block ps) (in_block block qs) p q
+out-append block ps qs p q = list_any-append (λ (p : Place). p.block == block) ps qs ∙ or_from (in_block block ps) (in_block block qs) p q
 
 -- a place isn't at an offset of a block if it isn't in it
-at_outside : (a b : Bool) → a ≡ false → (a && b) ≡ false
-at_outside true b e = absurd (cc)
-at_outside false b e = refl
-
 pub among_outside : (block offset : ℕ) (ps : List Place) → in_block block ps ≡ false → is_among block offset ps ≡ false
 among_outside block offset [] e = refl
 among_outside block offset (p ∷ ps) e =
-    let parts = parts_false (p.block == block) (in_block block ps) e in
-    or_false (is_at block offset p) (is_among block offset ps) (at_outside (p.block == block) (p.offset == offset) parts.0)
+    let parts = or_parts (p.block == block) (in_block block ps) e in
+    or_from (is_at block offset p) (is_among block offset ps) (and_left (p.block == block) (p.offset == offset) parts.0)
     (among_outside block offset ps parts.1)
 
 -- the place that an address may have
@@ -71,14 +56,14 @@ Outside block o = in_block block (place_if o) ≡ false
 
 place_or : (block : ℕ) (b : Bool) (p : Place) (o : Option Place) → (p.block == block) ≡ false → Outside block o →
     Outside block (option_or (if b then Some p else None) o)
-place_or block true p o here later = or_false (p.block == block) false here refl
+place_or block true p o here later = or_from (p.block == block) false here refl
 place_or block false p o here later = later
 
 place_outside : (block : ℕ) (layout : List Region) (a : ℕ) → Hides block layout → Outside block (place layout a)
 unfolding place
 place_outside block [] a e = refl
 place_outside block (r ∷ rs) a e =
-    let parts = parts_false (r.block == block) (list_any (is_of block) rs) e in
+    let parts = or_parts (r.block == block) (list_any (is_of block) rs) e in
     place_or block (is_within r.start r.size a) _ (place rs a) parts.0 (place_outside block rs a parts.1)
 
 io_outside : (block set address : ℕ) (o : Option Place) → Outside block o → Outside block (for_io set address o)
@@ -132,51 +117,14 @@ step_misses block s (Some q) outcome e =
 
 -- ---- layouts stay
 
-stored_at_layout : (m : Memory) (x : ℕ) (o : Option Place) → (stored_at m x o).layout ≡ m.layout
-stored_at_layout m x None = refl
-stored_at_layout m x (Some p) = refl
-
-layout_stays : (ws : List (ℕ × ℕ)) (m : Memory) → (stored_all m ws).layout ≡ m.layout
-unfolding stored_all
-layout_stays [] m = refl
-layout_stays (w ∷ ws) m = layout_stays ws (stored m w) ∙ stored_at_layout m w.1 (location m Write w.0)
-
 abbrev layout_of : {F : Type 0} → State F → List Region
 layout_of s = s.memory.layout
 
-exchange_layout : {F : Type 0} (may : May F) (s : State F) (i : ℕ) (q : Queue) (o : Offer) (calls : Calls) (x : Exchange) (notice : Bool)
-    (after : State F) →
-    Exchanges may s i q o calls x notice after → layout_of after ≡ layout_of s
-exchange_layout may s i q (Offers head (CannotFetch fault)) calls x notice after r = ap layout_of r.returns.state ∙ layout_stays _ s.memory
-exchange_layout may s i q (Offers head (IsRequest request room)) calls x notice after r =
-    ap layout_of r.returns.state ∙ layout_stays _ s.memory
-exchange_layout may s i q taking.Idle calls x notice after r = absurd r
-exchange_layout may s i q (Refuses e) calls x notice after r = absurd r
-
-step_layout :
-    {F : Type 0} (may : May F) (s : State F) (i : ℕ) (o : Option Queue) (calls : Calls) (x : Exchange) (notice : Bool) (after : State F) →
-    StepOf may s i o calls (Exchanged x notice) after → layout_of after ≡ layout_of s
-step_layout may s i None calls x notice after t = absurd (cc)
-step_layout may s i (Some q) calls x notice after t = exchange_layout may s i q _ calls x notice after t
-
-idle_layout : {F : Type 0} (may : May F) (s : State F) (i : ℕ) (o : Option Queue) (calls : Calls) (after : State F) →
-    StepOf may s i o calls Idle after → layout_of after ≡ layout_of s
-idle_layout may s i None calls after t = ap layout_of t.1.same
-idle_layout may s i (Some q) calls after t = ap layout_of t.1.same
-
-refused_layout : {F : Type 0} (may : May F) (s : State F) (i : ℕ) (o : Option Queue) (calls : Calls) (e : DeviceError) (after : State F) →
-    StepOf may s i o calls (Refused e) after → layout_of after ≡ layout_of s
-refused_layout may s i None calls e after t = ap layout_of t.1.same
-refused_layout may s i (Some q) calls device.NoSuchQueue after t = absurd t
-refused_layout may s i (Some q) calls (device.Queue stop.OutOfMemory) after t = ap layout_of t.1.same
-refused_layout may s i (Some q) calls (device.Queue _) after t = ap layout_of t.2
-
-end_layout : {F : Type 0} (may : May F) (s : State F) (i most : ℕ) (refused : Option DeviceError) (after : State F) →
-    KickEnds may s i most refused after → layout_of after ≡ layout_of s
-end_layout may s i zero None after is = ap layout_of is
-end_layout may s i zero (Some e) after is = absurd is
-end_layout may s i (suc most) None after t = idle_layout may s i (slice_get s.queues i) [] after t
-end_layout may s i (suc most) (Some e) after t = refused_layout may s i (slice_get s.queues i) [] e after t
+step_layout : {F : Type 0} (may : May F) (s after : State F) (i : ℕ) (calls : Calls) (x : Exchange) (notice : Bool) →
+    Step may s i calls (Exchanged x notice) after → layout_of after ≡ layout_of s
+step_layout may s after i calls x notice step =
+    let by = step_stores may s after i calls x notice step in
+    ap (λ (m : Memory). m.layout) by.1 ∙ ap (λ (m : Memory). m.layout) (ways_stay s.memory by.0)
 
 -- ---- kicks
 
@@ -195,11 +143,11 @@ kick_misses : {F : Type 0} (may : May F) (block : ℕ) (s : State F) (i most : �
     Hides block s.memory.layout → MissesAnd block (kick_touches may s i most reported refused after ran) (layout_of after)
 unfolding KickRun kick_touches
 kick_misses may block s i most [] refused after is e =
-    (end_misses block s i most refused e, subst (Hides block) (sym (end_layout may s i most refused after is)) e)
+    (end_misses block s i most refused e, subst (λ (m : Memory). Hides block m.layout) (sym (end_keeps may s i most refused after is)) e)
 kick_misses may block s i zero (x ∷ reported) refused after is e = absurd is
 kick_misses may block s i (suc most) (x ∷ reported) refused after (mid, step, rest) e =
     let later = kick_misses may block mid i most reported refused after rest
-    (subst (Hides block) (sym (step_layout may s i (slice_get s.queues i) x.calls x.exchange x.notice mid step)) e) in (
+    (subst (Hides block) (sym (step_layout may s mid i x.calls x.exchange x.notice step)) e) in (
       misses_both block (step_touches s (slice_get s.queues i) (Exchanged x.exchange x.notice))
           (kick_touches may mid i most reported refused after rest)
           (step_misses block s (slice_get s.queues i) (Exchanged x.exchange x.notice) e) later.0,
@@ -226,11 +174,11 @@ whichever block false x y p q = q
 
 with_hides :
     (block : ℕ) (r : Region) (layout : List Region) → (r.block == block) ≡ false → Hides block layout → Hides block (with_region r layout)
-with_hides block r [] here e = or_false (r.block == block) false here refl
+with_hides block r [] here e = or_from (r.block == block) false here refl
 with_hides block r (s ∷ rest) here e =
-    let parts = parts_false (s.block == block) (list_any (is_of block) rest) e in
-    by_start (nat_lt r.start s.start) (or_false (r.block == block) (list_any (is_of block) (s ∷ rest)) here e)
-    (or_false (s.block == block) (list_any (is_of block) (with_region r rest)) parts.0 (with_hides block r rest here parts.1))
+    let parts = or_parts (s.block == block) (list_any (is_of block) rest) e in
+    by_start (nat_lt r.start s.start) (or_from (r.block == block) (list_any (is_of block) (s ∷ rest)) here e)
+    (or_from (s.block == block) (list_any (is_of block) (with_region r rest)) parts.0 (with_hides block r rest here parts.1))
   where
     by_start : (b : Bool) → Hides block (r ∷ s ∷ rest) → Hides block (s ∷ with_region r rest) →
         Hides block (if b then r ∷ s ∷ rest else s ∷ with_region r rest)
@@ -240,12 +188,12 @@ with_hides block r (s ∷ rest) here e =
 filtered_hides : (block : ℕ) (keep : Region → Bool) (layout : List Region) → Hides block layout → Hides block (filter keep layout)
 filtered_hides block keep [] e = refl
 filtered_hides block keep (s ∷ rest) e =
-    let parts = parts_false (s.block == block) (list_any (is_of block) rest) e in
+    let parts = or_parts (s.block == block) (list_any (is_of block) rest) e in
     by_test (keep s) parts.0 (filtered_hides block keep rest parts.1)
   where
     by_test : (b : Bool) → (s.block == block) ≡ false → Hides block (filter keep rest) →
         Hides block (if b then s ∷ filter keep rest else filter keep rest)
-    by_test true p q = or_false (s.block == block) (list_any (is_of block) (filter keep rest)) p q
+    by_test true p q = or_from (s.block == block) (list_any (is_of block) (filter keep rest)) p q
     by_test false p q = q
 
 insert_hides : {F : Type 0} (block : ℕ) (s : State F) (r : Region) → (r.block == block) ≡ false → Hides block s.memory.layout →
@@ -375,10 +323,6 @@ command_misses may block s command reported answer after done e = plain_misses b
 
 -- ---- runs
 
-both_true : (a b : Bool) → IsTrue (a && b) → IsTrue a × IsTrue b
-both_true true b e = (refl, e)
-both_true false b e = absurd (cc)
-
 run_misses : {F : Type 0} (may : May F) (block : ℕ) (s after : State F) (events : List (Command × Answer)) (all_reported : List Turns)
     (ran : RunReported may s events all_reported after) →
     IsTrue (list_all (leaves_hidden block) (map (λ e. e.0) events)) → Hides block s.memory.layout →
@@ -386,7 +330,7 @@ run_misses : {F : Type 0} (may : May F) (block : ℕ) (s after : State F) (event
 unfolding RunReported run_touches
 run_misses may block s after [] [] ran leaves e = misses_nothing block
 run_misses may block s after (v ∷ vs) (reported ∷ all_reported) (mid, performs, rest) leaves e =
-    let parts = both_true (leaves_hidden block v.0) (list_all (leaves_hidden block) (map (λ e. e.0) vs)) leaves in
+    let parts = and_parts (leaves_hidden block v.0) (list_all (leaves_hidden block) (map (λ e. e.0) vs)) leaves in
     misses_both block (command_touches may s v.0 reported v.1 mid performs) (run_touches may mid vs all_reported after rest)
     (command_misses may block s v.0 reported v.1 mid performs e)
     (run_misses may block mid after vs all_reported rest parts.1 (performs_hides may block s v.0 reported v.1 mid parts.0 e performs))
@@ -398,16 +342,12 @@ no_copy block (run.InsertRegion base other) e = refl
 no_copy block (run.SetLayout layout) e = refl
 no_copy block _ e = e
 
-and_both : (a b : Bool) → IsTrue a → IsTrue b → IsTrue (a && b)
-and_both true b p q = q
-and_both false b p q = absurd (cc)
-
 pub no_copies : (block : ℕ) (events : List (Command × Answer)) → IsTrue (list_all (leaves_hidden block) (map (λ e. e.0) events)) →
     IsTrue (copies_nothing events)
 no_copies block [] e = refl
 no_copies block (v ∷ vs) e =
-    let parts = both_true (leaves_hidden block v.0) (list_all (leaves_hidden block) (map (λ e. e.0) vs)) e in
-    and_both (not (copies v.0)) (copies_nothing vs) (no_copy block v.0 parts.0) (no_copies block vs parts.1)
+    let parts = and_parts (leaves_hidden block v.0) (list_all (leaves_hidden block) (map (λ e. e.0) vs)) e in
+    and_from (not (copies v.0)) (copies_nothing vs) (no_copy block v.0 parts.0) (no_copies block vs parts.1)
 
 pub touches_nothing_of : {F : Type 0} (may : May F) (block : ℕ) (a after : State F) (events : List (Command × Answer))
     (all_reported : List Turns)
@@ -426,26 +366,16 @@ pub agree_outside : {F : Type 0} (block : ℕ) (a b : State F) (ps : List Place)
     ((offset : ℕ) → is_among block offset ps ≡ false) → AgreeOn a.memory.host b.memory.host ps
 agree_outside block a b ps differ out other offset is =
     ⊎_elim
-    (λ (e : other ≡ block). absurd (ne_true (is_among other offset ps) is (ap (λ (k : ℕ). is_among k offset ps) e ∙ out offset)))
+    (λ (e : other ≡ block). absurd (true≢false (sym is ∙ ap (λ (k : ℕ). is_among k offset ps) e ∙ out offset)))
     (λ (apart : other ≢ block). differ.others other offset apart)
     (cases_eq other block)
-  where
-    ne_true : (c : Bool) → c ≡ true → c ≡ false → ⊥
-    ne_true true p q = absurd (cc)
-    ne_true false p q = absurd (cc)
-
--- the commands of a run that was answered
-zip_firsts : (cs : List Command) (as' : List Answer) → length cs ≡ length as' → map (λ (e : Command × Answer). e.0) (zip cs as') ≡ cs
-zip_firsts [] [] e = refl
-zip_firsts (c ∷ cs) (a ∷ as') e = ap (λ (xs : List Command). c ∷ xs) (zip_firsts cs as' (cc))
-zip_firsts _ _ e = absurd (cc)
 
 -- from an answered run, what another host allows
 pub keeps_secret : {F : Type 0} (may : May F) → HiddenBlocksAreSecret may →
     (block : ℕ) (before after : State F) (commands : List Command) (answers : List Answer) → length answers ≡ length commands →
     Run may before (zip commands answers) after → IsHidden block before commands → KeepsSecret may block before after (zip commands answers)
 keeps_secret may law block before after commands answers long (all_reported, ran) hidden =
-    let firsts : map (λ e. e.0) (zip commands answers) ≡ commands = zip_firsts commands answers (sym long) in
+    let firsts : map (λ e. e.0) (zip commands answers) ≡ commands = firsts-zip commands answers long in
     let none = law block before after (zip commands answers) all_reported ran (subst (IsHidden block before) (sym firsts) hidden) in (
       all_reported,
       ran,

@@ -1,66 +1,25 @@
 -- stores to two hosts that differ in bytes alone
 use Rattle.std.proofs.Common.{◌≡◌, ℕ, zero, suc, Bool, true, false, ◌||◌, List, [], ◌∷◌, ◌++◌, map, Option, Some, None, refl, ap, sym, ◌∙◌}
-use Rattle.std.proofs.Common.{subst, ⊎_elim}
-use Rattle.std.specs.Prelude.{◌&&◌, ◌==◌, ◌≢◌, if◌then◌else◌, slice_get, slice_set, option_map, option_and_then}
+use Rattle.std.proofs.Common.{◌&&◌, ◌==◌, if◌then◌else◌, slice_get, slice_set, option_map, option_and_then, subst}
 use Rattle.std.specs.List.{flat_map}
-use Rattle.std.proofs.lemmas.Bool.{cases_eq, eq-eqb, ne_eqb}
+use Rattle.std.proofs.lemmas.Bool.{eq-eqb, or_left, or_right, or_parts}
+use Rattle.std.proofs.Math.Bool.{or-false}
 use Rattle.std.proofs.lemmas.Option.{slice_get-map}
 use Rattle.std.proofs.lemmas.List.{map-append}
 use Rattle.std.proofs.lemmas.List.Folds.{list_any-append}
 use Rattle.std.proofs.Math.Seq.{map-set_same}
-use Rattle.vm_iotlb.specs.declared.range.IotlbRange.{IotlbRange}
 use Rattle.vm_iotlb.specs.declared.permissions.Permissions.{Permissions}
 use Rattle.vm_iotlb.specs.declared.permissions.Permissions.TheVariants.{Read, Write}
-use Rattle.vm_memory_core.specs.Host.{Host, Place, IoAddress, Block, changed_at, byte_at, marked, with_block, with_byte, with_mark_by}
+use Rattle.vm_memory_core.specs.Host.{Host, Place, IoAddress, Block, byte_at, marked, with_block, with_byte, with_mark_by}
 use Rattle.vm_memory_core.specs.Window.{put_byte}
 use Rattle.vm_memory.specs.Memory.{Memory, location, stored_at, stored, stored_all}
+use Rattle.plain_machine.proofs.PageLemmas.{changed_seen, set_seen, ways_stay}
+use Rattle.fs_device.proofs.MarkLemmas.{changed_after, changed_same}
+use Rattle.fs_device.proofs.NodeLemmas.{either_way}
 use Rattle.fs_confinement.specs.ReadSet.{place_if, places_for, is_at, is_among, byte_of}
 use Rattle.fs_confinement.specs.Confinement.{zeroed, without_bytes, AgreeOn, KeepDifference}
 
--- ---- lists
-
-changed_same : {X Y : Type 0} (f : X → Y) (g : X → X) (l : List X) (i : ℕ) → ((x : X) → f (g x) ≡ f x) → map f (changed_at l i g) ≡ map f l
-changed_same f g [] i e = refl
-changed_same {X} {Y} f g (x ∷ l) zero e = ap (λ (y : Y). y ∷ map f l) (e x)
-changed_same {X} {Y} f g (x ∷ l) (suc i) e = ap (λ (r : List Y). f x ∷ r) (changed_same f g l i e)
-
-changed_after : {X Y : Type 0} (f : X → Y) (g : X → X) (h : Y → Y) (l : List X) (i : ℕ) → ((x : X) → f (g x) ≡ h (f x)) →
-    map f (changed_at l i g) ≡ changed_at (map f l) i h
-changed_after f g h [] i e = refl
-changed_after {X} {Y} f g h (x ∷ l) zero e = ap (λ (y : Y). y ∷ map f l) (e x)
-changed_after {X} {Y} f g h (x ∷ l) (suc i) e = ap (λ (r : List Y). f x ∷ r) (changed_after f g h l i e)
-
-changed_here : {X : Type 0} (l : List X) (i : ℕ) (f : X → X) → slice_get (changed_at l i f) i ≡ option_map f (slice_get l i)
-changed_here (x ∷ l) (suc i) f = changed_here l i f
-changed_here _ _ f = refl
-
-changed_there : {X : Type 0} (l : List X) (i j : ℕ) (f : X → X) → i ≢ j → slice_get (changed_at l i f) j ≡ slice_get l j
-changed_there (x ∷ l) zero zero f apart = absurd (apart refl)
-changed_there (x ∷ l) (suc i) (suc j) f apart = changed_there l i j f (λ e. apart (ap suc e))
-changed_there _ _ _ f apart = refl
-
-set_here : (l : List ℕ) (i x : ℕ) → slice_get (slice_set l i x) i ≡ option_map (λ _. x) (slice_get l i)
-set_here (y ∷ l) (suc i) x = set_here l i x
-set_here _ _ x = refl
-
-set_there : (l : List ℕ) (i j x : ℕ) → i ≢ j → slice_get (slice_set l i x) j ≡ slice_get l j
-set_there (y ∷ l) zero zero x apart = absurd (apart refl)
-set_there (y ∷ l) (suc i) (suc j) x apart = set_there l i j x (λ e. apart (ap suc e))
-set_there _ _ _ x apart = refl
-
 -- ---- sets of places
-
-or_left : (a b : Bool) → a ≡ true → (a || b) ≡ true
-or_left true b e = refl
-or_left false b e = absurd (cc)
-
-or_right : (a b : Bool) → b ≡ true → (a || b) ≡ true
-or_right true b e = refl
-or_right false b e = e
-
-neither : (a b : Bool) → (a || b) ≡ false → (a ≡ false) × (b ≡ false)
-neither true b e = absurd (cc)
-neither false b e = (refl, e)
 
 among-append :
     (block offset : ℕ) (ps qs : List Place) → is_among block offset (ps ++ qs) ≡ (is_among block offset ps || is_among block offset qs)
@@ -135,13 +94,8 @@ marked_byte :
     (io : Option IoAddress) (p : Place) (h : Host) (block offset : ℕ) → byte_of (with_mark_by io p h) block offset ≡ byte_of h block offset
 marked_byte (Some a) p h block offset = refl
 marked_byte None p h block offset =
-    ⊎_elim
-    (λ (e : p.block ≡ block).
-    ap (byte_in_block offset) (ap (λ (j : ℕ). slice_get (changed_at h.blocks p.block (λ b. record b { marks = marked b.marks p.offset })) j)
-    (sym e) ∙ changed_here h.blocks p.block _)
-    ∙ marks_stay offset (λ (b : Block). marked b.marks p.offset) (slice_get h.blocks p.block) ∙ ap (λ (j : ℕ). byte_of h j offset) e)
-    (λ (apart : p.block ≢ block). ap (byte_in_block offset) (changed_there h.blocks p.block block _ apart))
-    (cases_eq p.block block)
+    changed_seen (byte_in_block offset) h.blocks p.block block (λ b. record b { marks = marked b.marks p.offset })
+    (λ (here : Bool). byte_of h block offset) (marks_stay offset (λ (b : Block). marked b.marks p.offset) (slice_get h.blocks block)) refl
 
 -- what a store leaves at an offset of a block
 abbrev if_there : Bool → ℕ → Option ℕ → Option ℕ
@@ -149,42 +103,16 @@ if_there here x old = if here then option_map (λ _. x) old else old
 
 byte_set : (at offset x : ℕ) (o : Option Block) → byte_in_block offset
     (option_map (λ (b : Block). record b { bytes = slice_set b.bytes at x }) o) ≡ if_there (at == offset) x (byte_in_block offset o)
-byte_set at offset x None = either (at == offset)
-  where
-    either : (b : Bool) → None ≡ if_there b x None
-    either true = refl
-    either false = refl
+byte_set at offset x None = sym (either_way (at == offset) None)
 byte_set at offset x (Some b) =
-    ⊎_elim
-    (λ (e : at ≡ offset).
-    ap (λ (j : ℕ). slice_get (slice_set b.bytes at x) j) (sym e) ∙ set_here b.bytes at x
-    ∙ ap (λ (j : ℕ). option_map (λ _. x) (slice_get b.bytes j)) e
-    ∙ ap (λ (c : Bool). if_there c x (slice_get b.bytes offset)) (sym (eq-eqb at offset e)))
-    (λ (apart : at ≢ offset). set_there b.bytes at offset x apart
-    ∙ ap (λ (c : Bool). if_there c x (slice_get b.bytes offset)) (sym (ne_eqb at offset apart)))
-    (cases_eq at offset)
-
-both_there : (a b : Bool) (x : ℕ) (o : Option ℕ) → a ≡ true → if_there b x o ≡ if_there (a && b) x o
-both_there true b x o e = refl
-both_there false b x o e = absurd (cc)
-
-not_there : (a b : Bool) (x : ℕ) (o : Option ℕ) → a ≡ false → o ≡ if_there (a && b) x o
-not_there true b x o e = absurd (cc)
-not_there false b x o e = refl
+    set_seen b.bytes at offset x (λ (here : Bool). if_there here x (slice_get b.bytes offset)) refl refl
 
 with_byte_at : (h : Host) (p : Place) (x block offset : ℕ) →
     byte_of (with_byte h p x) block offset ≡ if_there (is_at block offset p) x (byte_of h block offset)
 with_byte_at h p x block offset =
-    ⊎_elim
-    (λ (e : p.block ≡ block).
-    ap (byte_in_block offset) (ap (λ (j : ℕ). slice_get (changed_at h.blocks p.block
-    (λ b. record b { bytes = slice_set b.bytes p.offset x })) j) (sym e) ∙ changed_here h.blocks p.block _)
-    ∙ byte_set p.offset offset x (slice_get h.blocks p.block) ∙ ap (λ (j : ℕ). if_there (p.offset == offset) x (byte_of h j offset)) e
-    ∙ both_there (p.block == block) (p.offset == offset) x (byte_of h block offset) (eq-eqb p.block block e))
-    (λ (apart : p.block ≢ block).
-    ap (byte_in_block offset) (changed_there h.blocks p.block block _ apart)
-    ∙ not_there (p.block == block) (p.offset == offset) x (byte_of h block offset) (ne_eqb p.block block apart))
-    (cases_eq p.block block)
+    changed_seen (byte_in_block offset) h.blocks p.block block (λ b. record b { bytes = slice_set b.bytes p.offset x })
+    (λ (here : Bool). if_there (here && (p.offset == offset)) x (byte_of h block offset))
+    (byte_set p.offset offset x (slice_get h.blocks block)) refl
 
 put_at : (h : Host) (p : Place) (x block offset : ℕ) →
     byte_of (put_byte h p x) block offset ≡ if_there (is_at block offset p) x (byte_of h block offset)
@@ -208,10 +136,10 @@ keep_both {g} {h} {g'} {h'} {g''} {h''} ps qs first later = record {
   new = λ block offset e.
       by_part block offset (is_among block offset ps) refl (sym (among-append block offset ps qs) ∙ e);
   old = λ block offset byte e is.
-      let apart = neither (is_among block offset ps) (is_among block offset qs) (sym (among-append block offset ps qs) ∙ e) in
+      let apart = or_parts (is_among block offset ps) (is_among block offset qs) (sym (among-append block offset ps qs) ∙ e) in
       later.old block offset byte apart.1 (first.old block offset byte apart.0 is);
   other_old = λ block offset byte e is.
-      let apart = neither (is_among block offset ps) (is_among block offset qs) (sym (among-append block offset ps qs) ∙ e) in
+      let apart = or_parts (is_among block offset ps) (is_among block offset qs) (sym (among-append block offset ps qs) ∙ e) in
       later.other_old block offset byte apart.1 (first.other_old block offset byte apart.0 is);
 }
   where
@@ -224,24 +152,20 @@ keep_both {g} {h} {g'} {h'} {g''} {h''} ps qs first later = record {
 pub agree_later : {g h g' h' : Host} (ps qs : List Place) → KeepDifference g h g' h' ps → AgreeOn g h qs → AgreeOn g' h' qs
 agree_later ps qs keep agree block offset is = keep.same block offset (agree block offset is)
 
-or_none : (b : Bool) → (b || false) ≡ b
-or_none true = refl
-or_none false = refl
-
 put_keeps :
     (g h : Host) → without_bytes g ≡ without_bytes h → (p : Place) (x : ℕ) → KeepDifference g h (put_byte g p x) (put_byte h p x) (p ∷ [])
 put_keeps g h same p x = record {
   same = λ block offset e. put_at g p x block offset ∙ ap (if_there (is_at block offset p) x) e ∙ sym (put_at h p x block offset);
   new = λ block offset e.
-      let here : is_at block offset p ≡ true = sym (or_none (is_at block offset p)) ∙ e in
+      let here : is_at block offset p ≡ true = sym (or-false (is_at block offset p)) ∙ e in
       put_at g p x block offset ∙ ap (λ (b : Bool). if_there b x (byte_of g block offset)) here
       ∙ whatever x (byte_of g block offset) (byte_of h block offset) (there_alike g h same block offset)
       ∙ sym (put_at h p x block offset ∙ ap (λ (b : Bool). if_there b x (byte_of h block offset)) here);
   old = λ block offset byte e is.
-      let apart : is_at block offset p ≡ false = sym (or_none (is_at block offset p)) ∙ e in
+      let apart : is_at block offset p ≡ false = sym (or-false (is_at block offset p)) ∙ e in
       put_at g p x block offset ∙ ap (λ (b : Bool). if_there b x (byte_of g block offset)) apart ∙ is;
   other_old = λ block offset byte e is.
-      let apart : is_at block offset p ≡ false = sym (or_none (is_at block offset p)) ∙ e in
+      let apart : is_at block offset p ≡ false = sym (or-false (is_at block offset p)) ∙ e in
       put_at h p x block offset ∙ ap (λ (b : Bool). if_there b x (byte_of h block offset)) apart ∙ is;
 }
 
@@ -270,15 +194,9 @@ stored_aside : (m n : Memory) → bare m ≡ bare n → (w : ℕ × ℕ) → bar
 stored_aside m n same w =
     stored_at_aside m n same w.1 (location m Write w.0) ∙ ap (λ (k : Memory). bare (stored_at n w.1 (location k Write w.0))) same
 
--- where addresses are doesn't change by a store
-tables_stay : (io : Option IoAddress) (p : Place) (h : Host) → (with_mark_by io p h).tables ≡ h.tables
-tables_stay None p h = refl
-tables_stay (Some a) p h = refl
-
-location_stays : (m : Memory) (x : ℕ) (o : Option Place) → location (stored_at m x o) ≡ location m
-location_stays m x None = refl
-location_stays m x (Some p) = ap (λ (tables : List (List IotlbRange)). location (record m { host = record m.host { tables = tables } }))
-    (tables_stay p.io p (with_byte m.host p x))
+-- where addresses are doesn't change by stores
+pub locations_stay : (ws : List (ℕ × ℕ)) (m : Memory) → location (stored_all m ws) ≡ location m
+locations_stay ws m = ap {B = Permissions → ℕ → Option Place} location (ways_stay m ws)
 
 abbrev places_by : (ℕ → Option Place) → List ℕ → List Place
 places_by where_is as' = flat_map (λ a. place_if (where_is a)) as'
@@ -304,13 +222,7 @@ stores_keep (w ∷ ws) m n same =
     subst (λ (where_is : Permissions → ℕ → Option Place).
     KeepDifference m.host n.host (stored_all (stored m w) ws).host (stored_all (stored n w) ws).host
     (place_if (location m Write w.0) ++ places_by (where_is Write) (map (λ w. w.0) ws)))
-    (location_stays m w.1 (location m Write w.0)) (keep_both (place_if (location m Write w.0)) _ first later)
-
--- where addresses are doesn't change by stores
-pub locations_stay : (ws : List (ℕ × ℕ)) (m : Memory) → location (stored_all m ws) ≡ location m
-unfolding stored_all
-locations_stay [] m = refl
-locations_stay (w ∷ ws) m = locations_stay ws (stored m w) ∙ location_stays m w.1 (location m Write w.0)
+    (locations_stay (w ∷ []) m) (keep_both (place_if (location m Write w.0)) _ first later)
 
 -- hosts that agree on the places of some addresses do so after stores to them
 pub agree_stored : (ws : List (ℕ × ℕ)) (m n : Memory) → bare m ≡ bare n → (as' : List ℕ) → AgreeOn m.host n.host (places_for m Read as') →

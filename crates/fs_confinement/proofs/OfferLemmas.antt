@@ -16,13 +16,11 @@ use Rattle.fs_queue.specs.Queue.{Queue, avail_index_at, ring_entry_at, element_a
 use Rattle.fs_queue.specs.NextAvail.{NextAvail, next_avail}
 use Rattle.fs_queue.specs.NextAvail as avail
 use Rattle.fs_queue.specs.Chain.{Descriptor, Visit, entry_address, WalkStep, walk_step, next_visit, onward, path, walk, first_visit}
-use Rattle.fs_queue.specs.Chain.{after_walk_step, Found, IsChain}
-use Rattle.fs_queue.specs.Chain.{found, chain}
+use Rattle.fs_queue.specs.Chain.{after_walk_step, Found, IsChain, found, chain}
 use Rattle.fs_queue.specs.Loads.{Load, reads_entry}
 use Rattle.fs_queue.specs.Taking.{RequestAndRoom, IsRequest, CannotFetch, readable, writable, total_len, all_reach, request_and_room, Offer}
-use Rattle.fs_queue.specs.Taking.{Idle, Refuses, Offers, offer_of, on_next_avail, offer}
+use Rattle.fs_queue.specs.Taking.{Idle, Refuses, Offers, offer_of, on_next_avail, offer, addresses_of}
 use Rattle.fs_queue.specs.Returning.{wants_notice}
-use Rattle.fs_queue.specs.Taking.{addresses_of}
 use Rattle.fs_queue.proofs.LoadLemmas.{step_still}
 use Rattle.fs_queue.proofs.StillLemmas.{outside}
 use Rattle.fs_confinement.specs.ReadSet.{place_if, places_for, ring_reads, entry_reads, walk_reads, request_reads, chain_reads}

@@ -3,8 +3,10 @@ use Rattle.std.proofs.Common.{◌≡◌, ℕ, Bool, true, false, not, ◌&&◌, 
 use Rattle.std.proofs.Common.{subst}
 use Rattle.std.specs.Prelude.{◌+◌, ◌==◌, nat_lt, IsTrue, if◌then◌else◌, slice_get, option_map, unwrap_or}
 use Rattle.std.specs.List.{list_all, list_any}
+use Rattle.std.proofs.lemmas.Bool.{and_parts}
 use Rattle.std.proofs.lemmas.List.{length-map}
 use Rattle.std.proofs.lemmas.Option.{slice_get-map}
+use Rattle.std.proofs.lemmas.Slice.Zip.{firsts-zip}
 use mathlib.Core.Path.{fun_ext}
 use Rattle.vm_iotlb.specs.declared.permissions.Permissions.TheVariants.{Read, Write}
 use Rattle.vm_iotlb.specs.declared.range.IotlbRange.{IotlbRange}
@@ -23,9 +25,8 @@ use Rattle.plain_machine.specs.declared.refusal.Refusal.TheVariants as why
 use Rattle.plain_machine.specs.Step.{State, with_queue}
 use Rattle.plain_machine.specs.Run as run
 use Rattle.plain_machine.specs.Run.{Turns, Command, Answer, Effect, Affects, ChangesTable, HasEffect, Does, IsDecided, Performs}
-use Rattle.plain_machine.specs.Run.{LacksMemory, RunReported, effect}
-use Rattle.plain_machine.specs.Run.{guest_written, insert, insert_block, remove_region, set_layout, is_known}
-use Rattle.plain_machine.specs.Run.{has_len, some_overlap, reset, with_host, with_layout, with_ranges, fits_in, block_fits_in}
+use Rattle.plain_machine.specs.Run.{LacksMemory, RunReported, effect, guest_written, insert, insert_block, remove_region, set_layout}
+use Rattle.plain_machine.specs.Run.{is_known, has_len, some_overlap, reset, with_host, with_layout, with_ranges, fits_in, block_fits_in}
 use Rattle.plain_machine.specs.Run.{command_takes_memory, ends_fit, no}
 use Rattle.fs_confinement.specs.ReadSet.{places_for, Touched, nothing, guest_reads, guest_writes, plain_touches, command_touches}
 use Rattle.fs_confinement.specs.ReadSet.{run_touches}
@@ -76,16 +77,6 @@ proceeds_alike layout base block None None is = refl
 proceeds_alike layout base block (Some b) (Some c) is =
     ap (λ (n : ℕ). fits_in layout (record { start = base; size = n; block = block })) (long_alike b c is)
 proceeds_alike layout base block _ _ is = absurd (cc)
-
--- the addresses that are written
-zip_firsts : (as' bs : List ℕ) → length as' ≡ length bs → map (λ (w : ℕ × ℕ). w.0) (zip as' bs) ≡ as'
-zip_firsts [] [] e = refl
-zip_firsts (a ∷ as') (b ∷ bs) e = ap (λ (xs : List ℕ). a ∷ xs) (zip_firsts as' bs (cc))
-zip_firsts _ _ e = absurd (cc)
-
-and_true : (a b : Bool) → IsTrue (a && b) → IsTrue a × IsTrue b
-and_true true b e = (refl, e)
-and_true false b e = absurd (cc)
 
 -- tables are no bytes
 other_tables : (g h : Host) (x y : List (List IotlbRange)) → KeepDifference g h (record g { tables = x }) (record h { tables = y }) []
@@ -230,7 +221,7 @@ module _ {F : Type 0} (s : State F) (h : Host) (same : without_bytes s.memory.ho
         bytes = subst (λ (as' : List ℕ). KeepDifference s.memory.host h (stored_all (physical s.memory) ws).host
             (stored_all (physical (with_host s h).memory) ws).host
             (places_for (physical s.memory) Write as'))
-            (zip_firsts (addresses a (length bs)) bs (length-addresses (length bs) a)) preserved;
+            (firsts-zip (addresses a (length bs)) bs (sym (length-addresses (length bs) a))) preserved;
       }) t)
 
   -- ---- tables
@@ -430,7 +421,7 @@ module _ {F : Type 0} (may : May F) where
   run_follows s t after (e ∷ es) (reported ∷ all_reported) (mid, performs, rest) few same agree =
       let own = command_touches may s e.0 reported e.1 mid performs in
       let later = run_touches may mid es all_reported after rest in
-      let parts = and_true (not (copies e.0)) (copies_nothing es) few in
+      let parts = and_parts (not (copies e.0)) (copies_nothing es) few in
       let first = command_follows s t same e.0 reported e.1 mid performs parts.0
       (agree_front s.memory.host t.memory.host own.read later.read agree) in
       let others = run_follows mid first.end after es all_reported rest parts.1 first.rest
