@@ -18,4 +18,5 @@ pub mod Moving
 pub mod Pops
 pub mod Remaps
 pub mod Resets
+pub mod Rest
 pub mod Spots

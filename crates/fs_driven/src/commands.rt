@@ -1,7 +1,7 @@
 //! A driver of several handles over several queues: its calls, one behind another, are a run, whose events
 //! have what they returned.
 
-ghost use Rattle.std.specs.Prelude.{◌≡◌, ◌∷◌, [], ℕ, Bool, List, Some, slice_get, true, false};
+ghost use Rattle.std.specs.Prelude.{◌≡◌, ◌∷◌, [], ℕ, Bool, List, Some, drop, length, slice_get, true, false};
 ghost use Rattle.fs_chain.specs.Orders.{is_out};
 ghost use Rattle.fs_chain.specs.declared.chain_handle.ChainHandle.{ChainHandle};
 ghost use Rattle.fs_chain.specs.declared.queue.QueueState.{QueueState};
@@ -559,8 +559,9 @@ fn perform<'a>(
 
 /// Performs commands one behind another, each for the handle in its place, and keeps what each returned: a
 /// run of the live machine, whose events are those of the calls by what they returned. `on`: the number of
-/// each handle's queue. It ends with the shortest of the last three lists.
-#[tactic(auto, using(crate::proofs::End::places, crate::proofs::End::commands, crate::proofs::End::results))]
+/// each handle's queue. It ends with the shortest of the last three lists. The results behind stay as they
+/// are.
+#[tactic(auto, using(crate::proofs::End::places, crate::proofs::End::commands, crate::proofs::End::results, crate::proofs::Rest::behind_places, crate::proofs::Rest::behind_commands))]
 pub fn drive_all<'a>(
     handles: &mut [ChainHandle],
     queues: &mut [QueueState],
@@ -572,6 +573,9 @@ pub fn drive_all<'a>(
 )
     ensures step { Drives on.now page_size handles.old handles.new queues.old queues.new
         (calls_of places.now commands.old returned.new) }
+    ensures behind_places { drop (length places.now) returned.new ≡ drop (length places.now) returned.old }
+    ensures behind_commands { drop (length commands.old) returned.new
+        ≡ drop (length commands.old) returned.old }
 {
     let mut n = 0;
     while n < places.len() && n < commands.len() && n < returned.len() {

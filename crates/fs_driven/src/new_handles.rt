@@ -1,7 +1,7 @@
 //! Commands of a driver from two new handles on. That they are a run is by `law_driven` and by the
 //! contract of `drive_all`.
 
-ghost use Rattle.std.specs.Prelude.{◌≡◌, IfErr, IfOk, None, OnErr, OnOk, Some};
+ghost use Rattle.std.specs.Prelude.{◌≡◌, IfErr, IfOk, None, OnErr, OnOk, Some, drop, length};
 ghost use Rattle.fs_chain.specs.Orders.{memory_error};
 ghost use Rattle.fs_chain.specs.declared.state.ChainState.TheVariants as at;
 ghost use Rattle.fs_driven.specs.Begins.{IsNew, RunsFromNew};
@@ -46,6 +46,10 @@ pub fn drive_new<'a>(
         × (returned.new ≡ returned.old)) }
     ensures run { IfOk result (λ handles. RunsFromNew on.now page_size limit memories.0 memories.1
         queues.old queues.new handles (calls_of places.now commands.old returned.new)) }
+    ensures behind_places { OnOk result
+        (drop (length places.now) returned.new ≡ drop (length places.now) returned.old) }
+    ensures behind_commands { OnOk result
+        (drop (length commands.old) returned.new ≡ drop (length commands.old) returned.old) }
 {
     let one = new_handle(alloc, memories.0, limit)?;
     let other = new_handle(alloc, memories.1, limit)?;

@@ -1,7 +1,7 @@
 //! Two chains by two handles, of one queue or of two, pushed in either order: commands of the driver. That
 //! they are a run of the live machine is the contract of `drive_all`.
 
-ghost use Rattle.std.specs.Prelude.{◌∷◌, []};
+ghost use Rattle.std.specs.Prelude.{◌≡◌, ◌∷◌, [], drop};
 ghost use Rattle.fs_driven.specs.Reported.{Drives, calls_of};
 ghost use Rattle.fs_driven.specs.declared.commands.Command.TheVariants as does;
 
@@ -25,7 +25,7 @@ pub struct Inputs<'a> {
 
 /// Pops two chains into handles 0 and 1 by loads that were made ahead, decodes and answers them, and pushes
 /// that of handle `first.0`, then that of handle `second.0`, with the two bytes that each push saw. Keeps
-/// what each of the ten calls returned.
+/// what each of the ten calls returned. The results behind stay as they are.
 pub fn serve_two<'a>(
     handles: &mut [ChainHandle],
     queues: &mut [QueueState],
@@ -44,6 +44,7 @@ pub fn serve_two<'a>(
         ∷ does.Decode other.entry.session other.entry.request
         ∷ does.Answer one.entry.serial one.entry.answer ∷ does.Answer other.entry.serial other.entry.answer
         ∷ does.Push ∷ does.Pushed first.1 ∷ does.Push ∷ does.Pushed second.1 ∷ []) returned.new) }
+    ensures behind { drop 10 returned.new ≡ drop 10 returned.old }
 {
     let places = [0, 1, 0, 1, 0, 1, first.0, first.0, second.0, second.0];
     let mut commands = [
