@@ -1,5 +1,6 @@
 -- An answer drives the run.
 use Rattle.std.proofs.Common.{◌≡◌, ℕ, true, List, [], ◌∷◌, ◌++◌, length, Option, Some, None, slice_get, refl, subst, sym, ap}
+use Rattle.std.proofs.Common.{inl, ◌∙◌}
 use Rattle.std.specs.Prelude.{Result, Ok, Err, IfErr, IfOk, OnOk, OnErr}
 use Rattle.fs_chain.specs.declared.error.ChainError.{ChainError}
 use Rattle.fs_chain.specs.Walks.{IsAllBut}
@@ -100,6 +101,7 @@ answered_all s i page_size k q ws ob oh pops push old new c request options call
       run,
       keeps s after i page_size q q ws ob oh k old new c c' (pops k) pops push push all there
           moves (λ n has. has) chains holds (queue, ready),
+      (λ b is. inl (sym all.under ∙ is)),
       reports after (ob ++ own k c' ∷ oh) (with_pop pops k (pops k)),
     )
 

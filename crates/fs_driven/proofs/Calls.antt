@@ -1,6 +1,6 @@
 -- A call of a handle among others that is refused, or changes nothing of the run.
 use Rattle.std.proofs.Common.{◌≡◌, ℕ, Bool, true, false, List, [], ◌∷◌, ◌++◌, length, Option, Some, None, slice_get, refl, subst, sym, ap}
-use Rattle.std.proofs.Common.{◌∙◌, zero, suc}
+use Rattle.std.proofs.Common.{inl, ◌∙◌, zero, suc}
 use Rattle.vm_memory.specs.Memory.{Memory}
 use Rattle.fs_chain.specs.Holds.{IsPopOf, HoldsChain, IsRepliedWith, HoldsPop, IsHeldIn, IsOutAs, IsQueue, Machine, Pop, live_of}
 use Rattle.fs_chain.specs.Holds.{queue_with, IsUnanswered}
@@ -148,6 +148,7 @@ stays s i page_size k q ws os pops push old new T all there same reports = by_ou
           refl,
           keeps s s i page_size q q ws has.ob has.oh k old new c c (pops k) pops push push has.driven there
               moves (λ n counts. counts) has.chains holds (has.mine.0, ready),
+          (λ b is. inl (sym all.under ∙ is)),
           reports (has.ob ++ own k c ∷ has.oh) (with_pop pops k (pops k)) (with_pop_same pops k (pops k)),
         )
     by_out false free = (
@@ -159,6 +160,7 @@ stays s i page_size k q ws os pops push old new T all there same reports = by_ou
       refl,
       idles s s i page_size q q ws os k old new (pops k) pops push push all there moves (λ n counts. counts) refl free
           (ap is_out same.0 ∙ free),
+      (λ b is. inl (sym all.under ∙ is)),
       reports os (with_pop pops k (pops k)) (with_pop_same pops k (pops k)),
     )
 
@@ -314,5 +316,6 @@ still s i page_size k q q' ws os pops push old new p T all there free same event
           (ap (λ (r : QueueState). r.pushing) is.1) all.still
           (was.0 ∙ ap places_in (sym same.0), was.1 ∙ sym same.1, may))
           (same_count (live_of q) (live_of q') (ap live_of is.1)) refl free (ap is_out is.0.state),
+      (λ b is. inl (sym all.under ∙ is)),
       reports,
     )

@@ -1,6 +1,6 @@
 -- A decoding drives the run.
 use Rattle.std.proofs.Common.{◌≡◌, ℕ, Bool, true, false, List, [], ◌∷◌, ◌++◌, length, Option, Some, None, slice_get, refl, subst, sym, ap}
-use Rattle.std.proofs.Common.{◌∙◌, ◌≤◌, ◌-◌, arith, eqb-true, ◌==◌, take, length-append}
+use Rattle.std.proofs.Common.{inl, ◌∙◌, ◌≤◌, ◌-◌, arith, eqb-true, ◌==◌, take, length-append}
 use Rattle.std.proofs.lemmas.Bool.{ltb-false}
 use Rattle.std.specs.Borrow.{Bor}
 use Rattle.std.specs.Prelude.{drop, Result, Ok, Err, IfErr, IfOk, OnOk, OnErr, if◌then◌else◌, nat_lt, ◌+◌}
@@ -102,6 +102,7 @@ decoded_so s i page_size k q ws ob oh pops push old new c request options report
           (after, proceeds.0, refl),
       keeps s after i page_size q q ws ob oh k old new c c' (pops k) pops push push all there moves (λ n has. has) refl
           proceeds.1.0 (queue, ready),
+      (λ b is. inl (sym all.under ∙ is)),
       reports after (ob ++ own k c' ∷ oh) (with_pop pops k (pops k)) (here ob oh (own k c')),
     )
 
@@ -131,6 +132,7 @@ decodes_more s i page_size k q ws ob oh pops push old new c T all there queue fr
       refl,
       keeps s s i page_size q q ws ob oh k old new c c (pops k) pops push push all there moves (λ n has. has) chains holds
           (queue, fetched_ready page_size s.page_size k q push c c.phase new.state new.session fresh holds),
+      (λ b is. inl (sym all.under ∙ is)),
       reports (ob ++ own k c ∷ oh) (with_pop pops k (pops k)),
     )
 

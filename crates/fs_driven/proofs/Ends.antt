@@ -1,6 +1,6 @@
 -- The end of a chain by a handle drives the run: a push in two calls, and a drop.
 use Rattle.std.proofs.Common.{◌≡◌, ◌<◌, ◌^◌, ℕ, Bool, true, false, List, [], ◌∷◌, ◌++◌, length, Option, Some, None, if◌then◌else◌, not}
-use Rattle.std.proofs.Common.{nat_lt, take, drop, Result, Ok, Err, IfErr, IfOk, OnOk, OnErr, refl, subst, sym, ap, ◌∙◌}
+use Rattle.std.proofs.Common.{inl, inr, nat_lt, take, drop, Result, Ok, Err, IfErr, IfOk, OnOk, OnErr, refl, subst, sym, ap, ◌∙◌}
 use Rattle.fs_chain.proofs.HoldsQueues.{same_index}
 use Rattle.fs_chain.specs.declared.error.ChainError.{ChainError}
 use Rattle.fs_chain.specs.declared.error.ChainError.TheVariants.{OtherQueue, ShortBuffer, WrongOrder}
@@ -15,7 +15,7 @@ use Rattle.fs_regions.specs.Places.{places_in}
 use Rattle.plain_machine.specs.Step.{Exchange}
 use Rattle.live_machine.specs.Several.{returning}
 use Rattle.live_machine.specs.Several as several
-use Rattle.live_machine.proofs.Queues.{there_other}
+use Rattle.live_machine.proofs.Queues.{none_some, same_some, there_other}
 use Rattle.live_machine.specs.Live.{InFlightChain, PushedWith, PushesChain, after_push, GivesUpChain, after_giving_up, Abandoned, Asked}
 use Rattle.live_machine.specs.Live.{Fetched, IsUnreplied, Own, Phase, RepliesOwnBytes, after_own, own_exchange}
 use Rattle.fs_driven.specs.Desks.{Begun, FitsRun, IsReady, IsUnderWay, MayPop, own, no_pop, with_pop}
@@ -145,6 +145,7 @@ push_drives page_size old new q q' front stores out preserved is idle ok so made
             subst (λ (st : state.ChainState). IsReady page_size k q' (Some b) c st) (sym state_is)
                 (x.0, x.1, under),
           ),
+      (λ other is. absurd (none_some other (sym (all.under ∙ all.still idle) ∙ is))),
       (
         refl,
         ok,
@@ -215,6 +216,10 @@ end_drives page_size old new q q' seen notice out is free gave small ends ws k t
       (after, e.0, refl),
       leaves s after i page_size q q' ws has.ob has.oh k old new c no_pop pops push None has.driven there moves
           (pushed_counts q q' gave small) refl (ap is_out state_is),
+      (λ b is. inr (
+        ap (λ (x : Begun). x.handle) (same_some b under.begun (sym is ∙ all.under ∙ under.is)) ∙ under.mine,
+        refl,
+      )),
       (
         c,
         x.0,
@@ -277,6 +282,7 @@ give_up_drives page_size old new q q' clear free left gives_up ws k there u s i 
           refl,
           idles s s i page_size q q' ws os k old new no_pop pops push push all there moves
               (same_count (live_of q) (live_of q') (ap live_of same)) refl none (ap is_out state_is),
+          (λ b is. inl (sym all.under ∙ is)),
           (
             clear,
             free,
@@ -313,6 +319,7 @@ give_up_drives page_size old new q q' clear free left gives_up ws k there u s i 
           (after, e.0, refl),
           leaves s after i page_size q q' ws has.ob has.oh k old new c no_pop pops push push has.driven there
               moves (given_up_counts q q' now) refl (ap is_out state_is),
+          (λ b is. inl (sym all.under ∙ is)),
           (
             clear,
             free,
@@ -399,6 +406,7 @@ reply_drives page_size old new q serial len out without clear kept made replies 
       keeps s after i page_size q q ws has.ob has.oh k old new c c' (pops k) pops push push has.driven there
           moves (λ n counts. counts) refl r.1
           (has.mine.0, own_ready page_size k q push c request reply new.state out (own_reply len) state_is),
+      (λ b is. inl (sym all.under ∙ is)),
       (clear, kept, refl, c, has.is_in, refl),
     )
 

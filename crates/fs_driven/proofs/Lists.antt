@@ -74,7 +74,8 @@ at_place on page_size ws k w new qs i q q' command returned there number queue m
             pops = refl;
             push = a.4;
             pushes = refl;
-            reports = a.7;
+            under_way = a.7;
+            reports = a.8;
           },
         ),
         (refl, refl),

@@ -142,6 +142,7 @@ drops old new q freed abandons page_size ws k there u s i os pops push all = by_
           (stays_put s i page_size k q q no_pop push new all.queue refl (λ head len. refl) refl all.still
           (fits_free s q (pops k) old new freed.0.3 freed.0.0.0 freed.0.0.1 (all.fits old there)))
           (λ n counts. counts) refl none (ap is_out freed.0.3),
+      (λ b is. inl (sym all.under ∙ is)),
       (
         freed,
         refl,
@@ -180,6 +181,7 @@ drops old new q freed abandons page_size ws k there u s i os pops push all = by_
               (λ j r. HasInFlight (live_of r) (number_of j (has.ob ++ lost c' ∷ has.oh))) all.there
               (with_lost has.ob has.oh k c c' i.number q (has.driven.whole.counts i.number q all.there) refl)
               (λ j r apart is. with_lost has.ob has.oh k c c' j r (has.driven.whole.counts j r is) refl)),
+          (λ b is. inl (sym all.under ∙ is)),
           (
             freed,
             refl,

@@ -150,6 +150,7 @@ ended s i page_size k q q' ws os pops push old new loaded step.Idle T all there 
           (fits_free s.places s.limit q (pops k) no_pop old new same.memory has
           (all.fits old there)))
           (same_count (live_of q) (live_of q') now) refl free (ap is_out has),
+      (λ b is. inl (sym all.under ∙ is)),
       reports s os (with_pop pops k no_pop),
     )
 ended s i page_size k q q' ws os pops push old new loaded (step.Refused e) T all there free same happens queue
@@ -177,6 +178,7 @@ ended s i page_size k q q' ws os pops push old new loaded (step.Refused e) T all
       (after, happens, refl),
       idles s after i page_size q q' ws os k old new no_pop pops push push all there moves
           (λ n counts. same_count v (live_of q') now n (refused_counts (live_of q) e n counts)) refl free (ap is_out has),
+      (λ b is. inl (sym all.under ∙ is)),
       reports after os (with_pop pops k no_pop),
     )
 ended s i page_size k q q' ws os pops push old new loaded (step.Chain head fault) T all there free same happens
@@ -209,6 +211,7 @@ ended s i page_size k q q' ws os pops push old new loaded (step.Chain head fault
       joins s after i page_size q q' ws os k old new c no_pop pops push push all there moves
           (λ n counts. same_count v (live_of q') now (suc n) (took_counts (live_of q) room n counts)) refl free has
           (refl, popped_ready page_size s.page_size k q' push c fault new.state new.session refl same.quiet has),
+      (λ b is. inl (sym all.under ∙ is)),
       reports after (os ++ own k c ∷ []) (with_pop pops k no_pop),
     )
 ended s i page_size k q q' ws os pops push old new loaded _ T all there free same happens queue has reports = absurd happens.ends
@@ -252,6 +255,7 @@ refused s i page_size k q q' ws os pops push old new reported T all there free s
       idles s after i page_size q q' ws os k old new no_pop pops push push all there moves
           (λ n counts. same_count v (live_of q') now n (refused_counts h.w r.error n
           (same_count (live_of q) h.w w_is n counts))) refl free (ap is_out r.free),
+      (λ b is. inl (sym all.under ∙ is)),
       reports after os (with_pop pops k no_pop),
     )
 
@@ -334,6 +338,7 @@ popped s i page_size k q q' ws os pops push old new p (shows.Missing range acces
           same.pushing all.still
           (fits_free s.places s.limit q (pops k) no_pop old new same.memory is.0 was))
           (same_count (live_of q) (live_of q') (ap live_of is.1)) refl free (ap is_out is.0),
+      (λ b is. inl (sym all.under ∙ is)),
       give s os (with_pop pops k no_pop) [] refl,
     )
 popped s i page_size k q q' ws os pops push old new p reported T all there free same event give is =

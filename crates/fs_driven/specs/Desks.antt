@@ -161,8 +161,12 @@ Leads s on page_size qs ws T =
     × Driven after on page_size qs ws os pops pushes
     × T es (desk after ws qs os pops pushes)
 
+-- a push under way stays, unless it is handle k's own and has ended
+abbrev pub KeepsPush : (k : ℕ) → (was now : Option Begun) → Type 0
+KeepsPush k was now = (b : Begun) → was ≡ Some b → (now ≡ Some b) ⊎ ((b.handle ≡ k) × (now ≡ None))
+
 -- the same of a call of handle k and queue i: each other handle's pop, and each other queue's push under way,
--- is as it was
+-- is as it was. So is another handle's push of this queue
 abbrev pub LeadsBy : Machine → (on : List ℕ) → (page_size : ℕ) → List QueueState → List ChainHandle →
     (k : ℕ) → (pops : ℕ → Pop) → (i : ℕ) → (pushes : ℕ → Option Begun) →
     (T : List LiveEvent → Desk → Type 0) → Type 0
@@ -174,6 +178,7 @@ LeadsBy s on page_size qs ws k pops i pushes T =
     × (push : Option Begun)
     × LiveRun any_files s es after
     × Driven after on page_size qs ws os (with_pop pops k pop) (with_push pushes i push)
+    × KeepsPush k (pushes i) push
     × T es (desk after ws qs os (with_pop pops k pop) (with_push pushes i push))
 
 -- these events lead from one desk to another, where the handles hold the run's chains

@@ -28,8 +28,8 @@ use Rattle.fs_chain.specs.Ahead.{PopsAhead, ahead_error}
 use Rattle.fs_chain.specs.AheadSteps.{AddsAhead}
 use Rattle.fs_chain.specs.Answers.{IfWaits, IsGiven, IsNotTaken}
 use Rattle.fs_chain.specs.Decoding.{IfUndecoded, ReportsMeaning, wanted_after, wanted_by}
-use Rattle.fs_driven.specs.Desks.{Begun, Desk, Driven, In, Leads, LeadsBy, LeadsTo, desk, lost, own, with_pop}
-use Rattle.fs_driven.specs.Desks.{with_push, with_queue}
+use Rattle.fs_driven.specs.Desks.{Begun, Desk, Driven, In, KeepsPush, Leads, LeadsBy, LeadsTo, desk, lost}
+use Rattle.fs_driven.specs.Desks.{own, with_pop, with_push, with_queue}
 use Rattle.fs_chain.specs.Holds.{Machine, Pop, calls_decoded, live_of, served_so}
 use Rattle.fs_chain.specs.Listings.{EndsByEntries, EndsByError}
 use Rattle.fs_chain.specs.Loads.{IsSame, ProceedsSo, RefusesWalk, whole}
@@ -517,7 +517,8 @@ IsMissing on d k =
     ⊎ (slice_get on k ≡ None)
     ⊎ ((i : ℕ) × (slice_get on k ≡ Some i) × (slice_get d.queues i ≡ None))
 
--- the call is one of handle k and its queue. Of the pops and of the pushes under way only theirs may change
+-- the call is one of handle k and its queue. Of the pops and of the pushes under way only theirs may change,
+-- and not another handle's push
 pub record IsCallOf (on : List ℕ) (page_size : ℕ) (d d' : Desk) (k : ℕ) (command : Command) (u : Unseen)
     (returned : Returned) (es : List LiveEvent) : Type 0 where
   pub queue : ℕ
@@ -534,6 +535,7 @@ pub record IsCallOf (on : List ℕ) (page_size : ℕ) (d d' : Desk) (k : ℕ) (c
   pub pops : d'.pops ≡ with_pop d.pops k pop
   pub push : Option Begun
   pub pushes : d'.pushes ≡ with_push d.pushes queue push
+  pub under_way : KeepsPush k (d.pushes queue) push
   pub reports : Reports (transition queue page_size k d d' was now before after) command u returned es
 
 -- the events of a call of one of the handles, of none if there is no such handle, or of a queue
