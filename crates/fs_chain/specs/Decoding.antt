@@ -4,6 +4,7 @@ use Rattle.fuse_fs.specs.declared.answers.Context.{Context}
 use Rattle.fuse_values.specs.declared.call.FileCall.{FileCall}
 use Rattle.fuse_values.specs.Places.{CallStandsIn}
 use Rattle.fuse_values.specs.Values.{call_of}
+use Rattle.server_requests.specs.Fronts.{first_name_at}
 use Rattle.virtiofsd_fuse.specs.Grammar.{Meaning, Asks, FileCommand}
 use Rattle.virtiofsd_fuse.specs.Serving.{Setting}
 use Rattle.server_phases.specs.declared.asking.DecodedRequest.{DecodedRequest}
@@ -61,10 +62,10 @@ ReportsMeaning s m bytes out reports.Nothing preserved = KeepsReply s m bytes ou
 ReportsMeaning s m bytes out (reports.Fault e) preserved =
     (preserved ≡ at.HasReply out no_reply) × IsDecoded s m bytes (asked.Fault e)
 
--- a call's names, values, pairs and label are in the request at their places
-abbrev pub ReportStandsIn : (request : List ℕ) → Decoded → Type 0
-ReportStandsIn request (reports.Call made) = CallStandsIn request made
-ReportStandsIn request _ = Unit {0}
+-- a call's names, values, pairs and label are in the request at their places, with these options
+abbrev pub ReportStandsIn : (options : ℕ) → (request : List ℕ) → Decoded → Type 0
+ReportStandsIn options request (reports.Call made) = CallStandsIn request (first_name_at options request) made
+ReportStandsIn options request _ = Unit {0}
 
 -- the call in flight keeps this context; a listing keeps none
 abbrev pub IsPreservedFor : Context → state.ChainState → Type 0

@@ -7,6 +7,7 @@ ghost use Rattle.fuse_fs.specs.declared.answers.Context.{Context};
 ghost use Rattle.fuse_in.specs.Records.{in_header};
 ghost use Rattle.fuse_in.specs.declared.session.InHeader.{InHeader};
 ghost use Rattle.fuse_values.specs.declared.call.FileCall as value;
+ghost use Rattle.server_requests.specs.Fronts.{first_name_at};
 ghost use Rattle.server_requests.specs.Reading.{record_parser};
 ghost use Rattle.virtiofsd_fuse.specs.Grammar.{Meaning, meaning};
 ghost use Rattle.virtiofsd_fuse.specs.Serving.{Setting, setting};
@@ -78,8 +79,9 @@ impl ChainHandle {
             → IsDecoded s m bytes asked.entry
             → ReportsMeaning s m bytes out result self.new.state }
         ensures asker { (who : Context) → IsAskedBy who asked.entry → IsPreservedFor who self.new.state }
-        ensures places { (request : List ℕ) → DecodedStandsIn request asked.entry
-            → ReportStandsIn request result }
+        ensures places { (options : ℕ) (request : List ℕ)
+            → DecodedStandsIn request (first_name_at options request) asked.entry
+            → ReportStandsIn options request result }
         ensures reported { wanted_by result ≡ None }
         ensures same { IsAllButPlace self.old self.new }
         ensures list { self.new.list_len ≡ self.old.list_len }
@@ -114,8 +116,8 @@ impl ChainHandle {
             → (h : InHeader) (more : List ℕ)
             → record_parser in_header request ≡ Ok (h, more)
             → IsPreservedFor (context_of h) self.new.state }
-        ensures places { (request : List ℕ) → FrontStandsIn request asked.entry
-            → ReportStandsIn request result }
+        ensures places { (options : ℕ) (request : List ℕ) → FrontStandsIn options request asked.entry
+            → ReportStandsIn options request result }
         ensures wanted { wanted_by result ≡ (if is_decoded asked.entry then None
             else Some (wanted len out.request_len)) }
         ensures same { IsAllButPlace self.old self.new }
@@ -151,7 +153,7 @@ impl ChainHandle {
             → (h : InHeader) (more : List ℕ)
             → record_parser in_header whole ≡ Ok (h, more)
             → IsPreservedFor (context_of h) self.new.state) }
-        ensures places { IfOk result (ReportStandsIn request.now) }
+        ensures places { IfOk result (ReportStandsIn session.options.0 request.now) }
         ensures wanted { IfOk result (λ reported. wanted_by reported ≡ wanted_after request.now
             out.request_len) }
         ensures same { IsAllBut self.old self.new
@@ -194,7 +196,7 @@ impl ChainHandle {
             → (h : InHeader) (more : List ℕ)
             → record_parser in_header whole ≡ Ok (h, more)
             → IsPreservedFor (context_of h) self.new.state)) }
-        ensures places { IfOk result (ReportStandsIn request.now) }
+        ensures places { IfOk result (ReportStandsIn session.options.0 request.now) }
         ensures wanted { IfOk result (λ reported. IfUndecoded self.old.state
             (λ out. wanted_by reported ≡ wanted_after request.now out.request_len)) }
         ensures same { IsAllBut self.old self.new

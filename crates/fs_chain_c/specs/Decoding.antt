@@ -135,7 +135,7 @@ DecodesSo b d request call status b' =
     × (fields : FsCall)
     × ReportsAsked asked request made fields status b'
     × (call ≡ record fields { ticket = b.serial })
-    × ReportStandsIn request made
+    × ReportStandsIn s.options.0 request made
 
 -- a `ChainHandle` decodes the first bytes of a request; `BadArgument`, if the numbers aren't a device's
 abbrev pub DecodesHandle :

@@ -1,5 +1,5 @@
 -- Where the names, values and pairs of a call lie in its request.
-use Rattle.std.specs.Prelude.{◌≡◌, ℕ, zero, suc, ◌+◌, ◌<◌, ◌⊎◌, All, List, [], ◌∷◌, ◌++◌, length, take, drop}
+use Rattle.std.specs.Prelude.{◌≡◌, ℕ, zero, suc, ◌+◌, ◌<◌, All, List, [], ◌∷◌, ◌++◌, length, take, drop}
 use Rattle.std.specs.Prelude.{Option, Some, None}
 use Rattle.fuse_in.specs.Shapes.{made}
 use Rattle.fuse_wire.specs.declared.others.ExtHeader.{ExtHeader}
@@ -30,10 +30,6 @@ NameStandsIn request name =
 -- a name lies in the request at this offset
 abbrev pub NameStandsAt : (request : List ℕ) → Placed → (offset : ℕ) → Type 0
 NameStandsAt request name offset = NameStandsIn request name × (name.at ≡ offset)
-
--- bytes lie behind the request's header (40 bytes) and a record of 8 or of 16 bytes
-abbrev pub LiesAtEither : Placed → Type 0
-LiesAtEither p = (p.at ≡ 48) ⊎ (p.at ≡ 56)
 
 -- the offset directly behind a name and its zero byte
 abbrev pub behind : (name : Placed) → ℕ
@@ -76,27 +72,27 @@ LabelStandsIn request start (Some l) =
     × LabelStandsAt request l (extension_start request start n + 16)
 
 -- the names of a call lie in the request, and so do its value, its pairs, and its label: the first
--- one directly behind the header (40 bytes) and the record of its kind (linux/fuse.h), the second
--- one directly behind it, the label in the extensions, which begin directly behind the last name
-abbrev pub CallStandsIn : (request : List ℕ) → FileCall → Type 0
-CallStandsIn request (value.Lookup context node name) = NameStandsAt request name 40
-CallStandsIn request (value.BatchForget context counts) = StandsIn request counts × (counts.at ≡ 48)
-CallStandsIn request (value.Symlink context link node name extra) =
-    NameStandsAt request name 40 × NameStandsIn request link × IsBehind name link
+-- name, or the pairs, at this offset, the second name or the value directly behind the first name, the
+-- label in the extensions, which begin directly behind the last name
+abbrev pub CallStandsIn : (request : List ℕ) → (first : ℕ) → FileCall → Type 0
+CallStandsIn request first (value.Lookup context node name) = NameStandsAt request name first
+CallStandsIn request first (value.BatchForget context counts) = StandsIn request counts × (counts.at ≡ first)
+CallStandsIn request first (value.Symlink context link node name extra) =
+    NameStandsAt request name first × NameStandsIn request link × IsBehind name link
     × LabelStandsIn request (behind link) extra.secctx
-CallStandsIn request (value.Mknod context node name mode rdev umask extra) =
-    NameStandsAt request name 56 × LabelStandsIn request (behind name) extra.secctx
-CallStandsIn request (value.Mkdir context node name mode umask extra) =
-    NameStandsAt request name 48 × LabelStandsIn request (behind name) extra.secctx
-CallStandsIn request (value.Unlink context node name) = NameStandsAt request name 40
-CallStandsIn request (value.Rmdir context node name) = NameStandsAt request name 40
-CallStandsIn request (value.Rename context node old new_dir new flags) =
-    NameStandsIn request old × LiesAtEither old × NameStandsIn request new × IsBehind old new
-CallStandsIn request (value.Link context old_node node name) = NameStandsAt request name 48
-CallStandsIn request (value.Setxattr context node name content flags extra) =
-    NameStandsIn request name × LiesAtEither name × StandsIn request content × IsBehind name content
-CallStandsIn request (value.Getxattr context node name size) = NameStandsAt request name 48
-CallStandsIn request (value.Removexattr context node name) = NameStandsAt request name 40
-CallStandsIn request (value.Create context node name mode kill flags umask extra) =
-    NameStandsAt request name 56 × LabelStandsIn request (behind name) extra.secctx
-CallStandsIn request _ = Unit {0}
+CallStandsIn request first (value.Mknod context node name mode rdev umask extra) =
+    NameStandsAt request name first × LabelStandsIn request (behind name) extra.secctx
+CallStandsIn request first (value.Mkdir context node name mode umask extra) =
+    NameStandsAt request name first × LabelStandsIn request (behind name) extra.secctx
+CallStandsIn request first (value.Unlink context node name) = NameStandsAt request name first
+CallStandsIn request first (value.Rmdir context node name) = NameStandsAt request name first
+CallStandsIn request first (value.Rename context node old new_dir new flags) =
+    NameStandsAt request old first × NameStandsIn request new × IsBehind old new
+CallStandsIn request first (value.Link context old_node node name) = NameStandsAt request name first
+CallStandsIn request first (value.Setxattr context node name content flags extra) =
+    NameStandsAt request name first × StandsIn request content × IsBehind name content
+CallStandsIn request first (value.Getxattr context node name size) = NameStandsAt request name first
+CallStandsIn request first (value.Removexattr context node name) = NameStandsAt request name first
+CallStandsIn request first (value.Create context node name mode kill flags umask extra) =
+    NameStandsAt request name first × LabelStandsIn request (behind name) extra.secctx
+CallStandsIn request first _ = Unit {0}

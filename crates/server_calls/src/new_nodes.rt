@@ -108,9 +108,9 @@ pub fn symlink_value<'a>(
       link = link.entry.bytes.now;
       extra = received_extra extra.entry;
     }) }
-    ensures places { (all : List ℕ) → NameStandsAt all name.entry 40 → NameStandsIn all link.entry
-        → IsBehind name.entry link.entry → LabelStandsIn all (behind link.entry) extra.entry.secctx
-        → CallStandsIn all result }
+    ensures places { (all : List ℕ) (first : ℕ) → NameStandsAt all name.entry first
+        → NameStandsIn all link.entry → IsBehind name.entry link.entry
+        → LabelStandsIn all (behind link.entry) extra.entry.secctx → CallStandsIn all first result }
 {
     FileCall::Symlink {
         context: Context::from(*head),

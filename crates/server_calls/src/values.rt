@@ -1,6 +1,6 @@
 //! Requests by shape. Each shape makes a file call as a value; the call's names lie in the request.
 
-ghost use Rattle.std.specs.Prelude.{◌≡◌, ℕ, ◌+◌, List, [], true};
+ghost use Rattle.std.specs.Prelude.{◌≡◌, ℕ, List, [], true};
 ghost use Rattle.fuse_in.specs.declared.session.InHeader.{InHeader};
 ghost use Rattle.fuse_fs.specs.Calls as call;
 ghost use Rattle.fuse_fs.specs.Calls.{Extra};
@@ -32,7 +32,7 @@ pub trait PlainValue {
     /// The call.
     fn value<'a>(head: &InHeader) -> FileCall<'a>
         ensures reads { call_of [] result ≡ call head.now }
-        ensures places { (all : List ℕ) → CallStandsIn all result };
+        ensures places { (all : List ℕ) (first : ℕ) → CallStandsIn all first result };
 }
 
 /// A request that is one record.
@@ -49,7 +49,7 @@ pub trait RecordValue {
     /// The call.
     fn value<'a>(head: &InHeader, request: &Self::Record) -> FileCall<'a>
         ensures reads { call_of [] result ≡ call head.now request.now }
-        ensures places { (all : List ℕ) → CallStandsIn all result };
+        ensures places { (all : List ℕ) (first : ℕ) → CallStandsIn all first result };
 }
 
 /// A request that is one name.
@@ -64,7 +64,8 @@ pub trait NameValue {
     /// The call.
     fn value<'a>(head: &InHeader, name: Placed<'a>) -> FileCall<'a>
         ensures reads { call_of [] result ≡ call head.now name.entry.bytes.now }
-        ensures places { (all : List ℕ) → NameStandsAt all name.entry 40 → CallStandsIn all result };
+        ensures places { (all : List ℕ) (first : ℕ) → NameStandsAt all name.entry first
+            → CallStandsIn all first result };
 }
 
 /// A request that is one record and one name.
@@ -81,8 +82,8 @@ pub trait RecordNameValue {
     /// The call.
     fn value<'a>(head: &InHeader, request: &Self::Record, name: Placed<'a>) -> FileCall<'a>
         ensures reads { call_of [] result ≡ call head.now request.now name.entry.bytes.now }
-        ensures places { (all : List ℕ) → NameStandsAt all name.entry (40 + Self.Record.SIZE)
-            → CallStandsIn all result };
+        ensures places { (all : List ℕ) (first : ℕ) → NameStandsAt all name.entry first
+            → CallStandsIn all first result };
 }
 
 /// A request that is one record and two names.
@@ -105,8 +106,8 @@ pub trait TwoNamesValue {
     ) -> FileCall<'a>
         ensures reads { call_of [] result
             ≡ call head.now request.now (old.entry.bytes.now, new.entry.bytes.now) }
-        ensures places { (all : List ℕ) → NameStandsAt all old.entry (40 + Self.Record.SIZE)
-            → NameStandsIn all new.entry → IsBehind old.entry new.entry → CallStandsIn all result };
+        ensures places { (all : List ℕ) (first : ℕ) → NameStandsAt all old.entry first
+            → NameStandsIn all new.entry → IsBehind old.entry new.entry → CallStandsIn all first result };
 }
 
 /// A request that is one record and the name of a new node.
@@ -129,6 +130,6 @@ pub trait NewNameValue {
     ) -> FileCall<'a>
         ensures reads { call_of [] result
             ≡ call head.now request.now (name.entry.bytes.now, received_extra extra.entry) }
-        ensures places { (all : List ℕ) → NameStandsAt all name.entry (40 + Self.Record.SIZE)
-            → LabelStandsIn all (behind name.entry) extra.entry.secctx → CallStandsIn all result };
+        ensures places { (all : List ℕ) (first : ℕ) → NameStandsAt all name.entry first
+            → LabelStandsIn all (behind name.entry) extra.entry.secctx → CallStandsIn all first result };
 }

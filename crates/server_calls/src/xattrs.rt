@@ -1,7 +1,7 @@
 //! Requests about extended attributes.
 
 ghost use Rattle.std.specs.Prelude.{◌≡◌, ℕ, List, [], bit_and, refl};
-ghost use Rattle.fuse_values.specs.Places.{CallStandsIn, IsBehind, LiesAtEither, NameStandsIn, StandsIn};
+ghost use Rattle.fuse_values.specs.Places.{CallStandsIn, IsBehind, NameStandsAt, StandsIn};
 ghost use Rattle.fuse_values.specs.Values.{call_of};
 ghost use Rattle.server_calls.specs.Requests.{getxattr_call, listxattr_call, setxattr_call, known_setxattr};
 
@@ -68,8 +68,8 @@ pub fn setxattr_value<'a>(
 ) -> FileCall<'a>
     ensures reads { call_of [] result
         ≡ setxattr_call head.now request.now (name.entry.bytes.now, value.entry.bytes.now) }
-    ensures places { (all : List ℕ) → NameStandsIn all name.entry → LiesAtEither name.entry
-        → StandsIn all value.entry → IsBehind name.entry value.entry → CallStandsIn all result }
+    ensures places { (all : List ℕ) (first : ℕ) → NameStandsAt all name.entry first
+        → StandsIn all value.entry → IsBehind name.entry value.entry → CallStandsIn all first result }
 {
     FileCall::Setxattr {
         context: Context::from(*head),

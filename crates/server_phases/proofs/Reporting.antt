@@ -1,6 +1,6 @@
 -- What a request is decoded to: a reply without a call, or one call.
-use Rattle.std.proofs.Common.{◌≡◌, ◌*◌, ◌<◌, ◌≤◌, ◌^◌, ℕ, zero, suc, drop, Bool, true, false, List, [], ◌++◌, length, Ok, Err, cond, refl}
-use Rattle.std.proofs.Common.{ap, subst, sym, ◌∙◌, arith}
+use Rattle.std.proofs.Common.{◌≡◌, ◌+◌, ◌*◌, ◌<◌, ◌≤◌, ◌^◌, ℕ, zero, suc, drop, Bool, true, false, List, [], ◌++◌, length, Ok, Err, cond}
+use Rattle.std.proofs.Common.{refl, ap, subst, sym, ◌∙◌, arith}
 use Rattle.std.specs.Prelude.{◌/◌, nat_le, nat_lt}
 use Rattle.std.proofs.lemmas.Bool.Decides.{nat_tests}
 use Rattle.fuse_in.specs.declared.session.InHeader.{InHeader}
@@ -10,7 +10,8 @@ use Rattle.fuse_fs.specs.Calls.{FileCall, Init, Readdir}
 use Rattle.fuse_values.specs.declared.call.FileCall as made
 use Rattle.fuse_values.specs.declared.call.FileCall.TheVariants as value
 use Rattle.fuse_values.specs.Values.{call_of, pairs_in, pairs_of}
-use Rattle.server_requests.specs.Fronts.{forget_pair}
+use Rattle.fuse_wire.specs.Opcodes.{opcode_of}
+use Rattle.server_requests.specs.Fronts.{first_name_at, forget_pair, record_len}
 use Rattle.server_requests.specs.Reading.{Faults, many, record_parser, value_of}
 use Rattle.server_calls.specs.Callers.{CallShows, is_plain}
 use Rattle.server_calls.specs.Requests.{batch_forget_call}
@@ -43,8 +44,23 @@ error_reported page_size options room unique errno bytes =
     reply_reported page_size options room (error_bytes unique errno) bytes (omega (arith, length_error unique errno))
 
 -- what has no names is decoded from any bytes
-pub behind_any : (bytes : List ℕ) (a : DecodedRequest) → ((request : List ℕ) → DecodedStandsIn request a) → StandsBehindHeader bytes a
-behind_any bytes a any = λ header forty. any (header ++ bytes)
+pub behind_any : (bytes : List ℕ) (first : ℕ) (a : DecodedRequest) → ((request : List ℕ) (at : ℕ) → DecodedStandsIn request at a)
+    → StandsBehindHeader bytes first a
+behind_any bytes first a any = λ header forty. any (header ++ bytes) first
+
+first_by : (options : ℕ) (request left : List ℕ) (head : InHeader) → Ok (head, left) ≡ record_parser in_header request →
+    40 + record_len options (opcode_of head.opcode) ≡ first_name_at options request
+unfolding first_name_at
+first_by options request left head e = rw (← e) refl
+
+-- what is decoded behind a header that was read has its first name where the request's header says
+pub placed_by : (options : ℕ) (request left : List ℕ) (head : InHeader) (a : DecodedRequest)
+    → Ok (head, left) ≡ record_parser in_header request → (header : List ℕ) → header ++ left ≡ request
+    → DecodedStandsIn (header ++ left) (40 + record_len options (opcode_of head.opcode)) a
+    → DecodedStandsIn request (first_name_at options request) a
+placed_by options request left head a reads header whole stands =
+    subst (λ (n : ℕ). DecodedStandsIn request n a) (first_by options request left head reads)
+    (subst (λ (l : List ℕ). DecodedStandsIn l (40 + record_len options (opcode_of head.opcode)) a) whole stands)
 
 -- what is kept of a call names who sent the header
 pub has_asker : (request left : List ℕ) (head : InHeader) (a : DecodedRequest) → Ok (head, left) ≡ record_parser in_header request →

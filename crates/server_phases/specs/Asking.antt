@@ -9,6 +9,7 @@ use Rattle.fuse_in.specs.declared.session.InHeader.{InHeader}
 use Rattle.fuse_in.specs.Records.{in_header}
 use Rattle.fuse_fs.specs.declared.answers.Context.{Context}
 use Rattle.fuse_fs.specs.Answers.{context_of}
+use Rattle.server_requests.specs.Fronts.{first_name_at}
 use Rattle.server_requests.specs.Reading.{Parser, record_parser}
 use Rattle.server_segments.specs.declared.error.Error.TheVariants.{EncodeMessage}
 use Rattle.virtiofsd_fuse.specs.DataApart.{begins_a_write}
@@ -51,15 +52,15 @@ IsDecoded s m bytes (asked.Reply reply) = (served s m [] ≡ all_reply s.options
 IsDecoded s m bytes asked.Silence = served s m [] ≡ all_reply s.options []
 IsDecoded s m bytes (asked.Fault e) = served s m [] ≡ no_reply [] s.options (Some e)
 
--- a call's names, values, pairs and label are in the request at their places
-abbrev pub DecodedStandsIn : (request : List ℕ) → DecodedRequest → Type 0
-DecodedStandsIn request (asked.Call made w) = CallStandsIn request made
-DecodedStandsIn request asked = Unit {0}
+-- a call's names, values, pairs and label are in the request at their places, the first one at this offset
+abbrev pub DecodedStandsIn : (request : List ℕ) → (first : ℕ) → DecodedRequest → Type 0
+DecodedStandsIn request first (asked.Call made w) = CallStandsIn request first made
+DecodedStandsIn request first asked = Unit {0}
 
 -- and the request is any header (struct fuse_in_header, 40 bytes) with the bytes behind it
-abbrev pub StandsBehindHeader : (bytes : List ℕ) → DecodedRequest → Type 0
-StandsBehindHeader bytes asked =
-    (header : List ℕ) → length header ≡ 40 → DecodedStandsIn (header ++ bytes) asked
+abbrev pub StandsBehindHeader : (bytes : List ℕ) → (first : ℕ) → DecodedRequest → Type 0
+StandsBehindHeader bytes first asked =
+    (header : List ℕ) → length header ≡ 40 → DecodedStandsIn (header ++ bytes) first asked
 
 -- a call that waits has this caller
 abbrev pub IsAskedBy : Context → DecodedRequest → Type 0
@@ -106,9 +107,10 @@ IsDecodedByFront s m bytes (asked_front.Decoded asked) = IsDecoded s m bytes ask
 IsDecodedByFront s m bytes asked_front.More = Unit {0}
 
 -- a call decoded from the first bytes has its names, values, pairs and label there
-abbrev pub FrontStandsIn : (front : List ℕ) → AskedFront → Type 0
-FrontStandsIn front (asked_front.Decoded asked) = DecodedStandsIn front asked
-FrontStandsIn front asked_front.More = Unit {0}
+abbrev pub FrontStandsIn : (options : ℕ) → (front : List ℕ) → AskedFront → Type 0
+FrontStandsIn options front (asked_front.Decoded asked) =
+    DecodedStandsIn front (first_name_at options front) asked
+FrontStandsIn options front asked_front.More = Unit {0}
 
 -- a call decoded from the first bytes has the sender of the request as its caller
 abbrev pub HasAskerByFront : (request : List ℕ) → AskedFront → Type 0

@@ -73,7 +73,7 @@ pub(crate) fn refused<'a>(head: &InHeader, error: Errno, room: usize) -> Decoded
     ensures reported { (page_size options : ℕ) (m : Meaning) (bytes : List ℕ)
         → m ≡ Replies (error_bytes head.now.unique error)
         → IsDecoded (setting page_size options room) m bytes result }
-    ensures places { (request : List ℕ) → DecodedStandsIn request result }
+    ensures places { (request : List ℕ) (first : ℕ) → DecodedStandsIn request first result }
     ensures asker { IsAskedBy (context_of head.now) result }
 {
     replied(room, Front::error(head.unique, error))
@@ -85,7 +85,7 @@ pub(crate) fn read_asked<'a>(head: &InHeader, request: &ReadIn, room: usize) -> 
     ensures reported { (page_size options : ℕ) (bytes : List ℕ)
         → IsDecoded (setting page_size options room)
         (Asks (One head.now.unique (read_call head.now (room - 16) request.now))) bytes result }
-    ensures places { (request : List ℕ) → DecodedStandsIn request result }
+    ensures places { (request : List ℕ) (first : ℕ) → DecodedStandsIn request first result }
     ensures asker { IsAskedBy (context_of head.now) result }
 {
     let most = room - OUT_HEADER_LEN;
@@ -101,7 +101,7 @@ pub(crate) fn read_asked<'a>(head: &InHeader, request: &ReadIn, room: usize) -> 
 // The call of a READ with `most` bytes for its data.
 fn read_value<'a>(head: &InHeader, request: &ReadIn, most: usize) -> FileCall<'a>
     ensures call { (bytes : List ℕ) → call_of bytes result ≡ read_call head.now most request.now }
-    ensures places { (request : List ℕ) → CallStandsIn request result }
+    ensures places { (request : List ℕ) (first : ℕ) → CallStandsIn request first result }
     ensures data_apart { (bytes : List ℕ) → ReportsData bytes result }
 {
     FileCall::Read {
@@ -128,7 +128,7 @@ pub(crate) fn entries_asked<'a>(
     ensures reported { (page_size options : ℕ) (bytes : List ℕ)
         → IsDecoded (setting page_size options room)
         (Asks (Lists head.now.unique (listing_of with_nodes head.now request.now))) bytes result }
-    ensures places { (request : List ℕ) → DecodedStandsIn request result }
+    ensures places { (request : List ℕ) (first : ℕ) → DecodedStandsIn request first result }
     ensures asker { IsAskedBy (context_of head.now) result }
 {
     let context = Context::from(*head);
@@ -166,7 +166,7 @@ fn write_asked<'a>(
         → len ≡ length bytes
         → IsDecoded (setting page_size options room)
         (Asks (One head.now.unique (write_call head.now request.now bytes))) bytes result }
-    ensures places { (request : List ℕ) → DecodedStandsIn request result }
+    ensures places { (request : List ℕ) (first : ℕ) → DecodedStandsIn request first result }
     ensures asker { IsAskedBy (context_of head.now) result }
 {
     let waiting = Waiting {
@@ -181,7 +181,7 @@ fn write_asked<'a>(
 // The call of a WRITE of `len` bytes, as a value.
 fn write_value<'a>(head: &InHeader, request: &WriteIn, len: usize) -> FileCall<'a>
     ensures call { (bytes : List ℕ) → call_of bytes result ≡ write_call head.now request.now bytes }
-    ensures places { (request : List ℕ) → CallStandsIn request result }
+    ensures places { (request : List ℕ) (first : ℕ) → CallStandsIn request first result }
     ensures data_apart { (bytes : List ℕ) → len ≡ length bytes → ReportsData bytes result }
 {
     let reported = write_flags(request);
@@ -207,7 +207,8 @@ pub(crate) fn called<'a>(head: &InHeader, made: FileCall<'a>, room: usize) -> De
         → CallShows head.now c
         → call_of [] made.entry ≡ c
         → IsDecoded s m bytes result }
-    ensures places { (request : List ℕ) → CallStandsIn request made.entry → DecodedStandsIn request result }
+    ensures places { (request : List ℕ) (first : ℕ) → CallStandsIn request first made.entry
+        → DecodedStandsIn request first result }
     ensures asker { IsAskedBy (context_of head.now) result }
 {
     let awaits = awaits_of(&made);
@@ -230,8 +231,8 @@ pub(crate) fn pairs_asked<'a>(
         → length counts.entry.bytes.now ≡ 16 * length (pairs_in counts.entry.bytes.now)
         → m ≡ Asks (One head.now.unique (batch_forget_call head.now (pairs_in counts.entry.bytes.now)))
         → IsDecoded (setting page_size options room) m bytes result }
-    ensures places { (request : List ℕ) → StandsIn request counts.entry → counts.entry.at ≡ 48
-        → DecodedStandsIn request result }
+    ensures places { (request : List ℕ) → StandsIn request counts.entry
+        → DecodedStandsIn request counts.entry.at result }
     ensures asker { IsAskedBy (context_of head.now) result }
 {
     let context = Context::from(*head);
@@ -256,7 +257,7 @@ pub(crate) fn init_asked<'a>(
         → s.room ≡ room
         → m ≡ Asks (Starts head.now.unique capable.0 readahead)
         → IsDecoded s m bytes result }
-    ensures places { (request : List ℕ) → DecodedStandsIn request result }
+    ensures places { (request : List ℕ) (first : ℕ) → DecodedStandsIn request first result }
     ensures asker { IsAskedBy (context_of head.now) result }
 {
     let waiting = Waiting {
@@ -283,7 +284,7 @@ pub(crate) fn ask_write_row<'a>(
         → len ≡ length (drop 40 bytes)
         → IsDecoded (setting page_size options room)
         (ended head.now.unique (write_row (given head.now options room) bytes)) (drop 40 bytes) result }
-    ensures places { (request : List ℕ) → DecodedStandsIn request result }
+    ensures places { (request : List ℕ) (first : ℕ) → DecodedStandsIn request first result }
     ensures asker { IsAskedBy (context_of head.now) result }
 {
     let mut source = source;
@@ -302,7 +303,7 @@ pub(crate) fn ask_write_front<'a>(front: &'a [u8], len: usize, room: usize) -> D
         → len ≡ length request
         → IsRequestFront front.now request
         → IsDecoded (setting page_size options room) (meaning options request room) (drop 80 request) result }
-    ensures places { (request : List ℕ) → DecodedStandsIn request result }
+    ensures places { (request : List ℕ) (first : ℕ) → DecodedStandsIn request first result }
     ensures asker { (request : List ℕ) → IsRequestFront front.now request → HasAsker request result }
 {
     let mut source = Flat { bytes: front };
@@ -325,7 +326,7 @@ fn ask_write_head<'a>(
         → len ≡ length (drop 40 bytes)
         → IsDecoded (setting page_size options room) (meant (given head.now options room) bytes)
         (drop 40 bytes) result }
-    ensures places { (request : List ℕ) → DecodedStandsIn request result }
+    ensures places { (request : List ℕ) (first : ℕ) → DecodedStandsIn request first result }
     ensures asker { IsAskedBy (context_of head.now) result }
 {
     if head.len > MAX_REQUEST_LEN {

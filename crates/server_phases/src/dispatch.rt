@@ -1,7 +1,9 @@
 //! Decoding a request by its header.
 
-ghost use Rattle.std.specs.Prelude.{drop};
+ghost use Rattle.std.specs.Prelude.{◌+◌, Some, drop};
 ghost use Rattle.fuse_fs.specs.Answers.{context_of};
+ghost use Rattle.fuse_wire.specs.Opcodes.{opcode_of};
+ghost use Rattle.server_requests.specs.Fronts.{record_len};
 ghost use Rattle.virtiofsd_fuse.specs.Grammar.{given, meant, row};
 ghost use Rattle.virtiofsd_fuse.specs.Serving.{setting};
 ghost use Rattle.server_phases.specs.Asking.{IsAskedBy, IsRowReported, IsDecoded, StandsBehindHeader};
@@ -26,7 +28,8 @@ impl Session {
         ensures reported { IsRowReported self.now.page_size self.now.options.0 head.now room
             (λ g. row g opcode)
             source.entry.bytes.now result }
-        ensures places { StandsBehindHeader source.entry.bytes.now result }
+        ensures places { StandsBehindHeader source.entry.bytes.now
+            (40 + record_len self.now.options.0 (Some opcode)) result }
         ensures asker { IsAskedBy (context_of head.now) result }
     {
         match opcode {
@@ -51,7 +54,8 @@ impl Session {
         ensures reported { IsDecoded (setting self.now.page_size self.now.options.0 room)
             (meant (given head.now self.now.options.0 room) source.entry.bytes.now)
             (drop 40 source.entry.bytes.now) result }
-        ensures places { StandsBehindHeader source.entry.bytes.now result }
+        ensures places { StandsBehindHeader source.entry.bytes.now
+            (40 + record_len self.now.options.0 (opcode_of head.now.opcode)) result }
         ensures asker { IsAskedBy (context_of head.now) result }
     {
         if head.len > MAX_REQUEST_LEN {

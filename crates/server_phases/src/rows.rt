@@ -1,7 +1,8 @@
 //! Decoding requests by the row of their opcode.
 
-ghost use Rattle.std.specs.Prelude.{◌≡◌, ◌≤◌, ℕ, List, ◌++◌, length, true};
+ghost use Rattle.std.specs.Prelude.{◌≡◌, ◌≤◌, ◌+◌, ℕ, List, ◌++◌, length, true, Some};
 ghost use Rattle.fuse_fs.specs.Answers.{context_of};
+ghost use Rattle.server_requests.specs.Fronts.{record_len};
 ghost use Rattle.virtiofsd_fuse.specs.Grammar.{row, forgets_asked, batch_forget_row, init_row, listing_row};
 ghost use Rattle.virtiofsd_fuse.specs.Grammar.{read_row, write_row, ended, given};
 ghost use Rattle.virtiofsd_fuse.specs.RowMeanings.{is_single};
@@ -38,7 +39,8 @@ impl Session {
         ensures reported { IsRowReported self.now.page_size self.now.options.0 head.now room
             (λ g. row g opcode)
             source.entry.bytes.now result }
-        ensures places { StandsBehindHeader source.entry.bytes.now result }
+        ensures places { StandsBehindHeader source.entry.bytes.now
+            (40 + record_len self.now.options.0 (Some opcode)) result }
         ensures asker { IsAskedBy (context_of head.now) result }
     {
         match row_meaning(opcode, head, self.options, source) {
@@ -62,7 +64,7 @@ impl Session {
             (ended head.now.unique (forgets_asked count (given head.now self.now.options.0 room)
             source.entry.bytes.now)) bytes result }
         ensures places { (front : List ℕ) → length front ≡ 48
-            → DecodedStandsIn (front ++ source.entry.bytes.now) result }
+            → DecodedStandsIn (front ++ source.entry.bytes.now) 48 result }
         ensures asker { IsAskedBy (context_of head.now) result }
     {
         match source.pairs(count) {
@@ -81,7 +83,7 @@ impl Session {
     ) -> DecodedRequest<'a>
         ensures reported { IsRowReported self.now.page_size self.now.options.0 head.now room batch_forget_row
             source.entry.bytes.now result }
-        ensures places { StandsBehindHeader source.entry.bytes.now result }
+        ensures places { StandsBehindHeader source.entry.bytes.now 48 result }
         ensures asker { IsAskedBy (context_of head.now) result }
     {
         let mut source = source;
@@ -102,7 +104,7 @@ impl Session {
     ) -> DecodedRequest<'a>
         ensures reported { IsRowReported self.now.page_size self.now.options.0 head.now room read_row
             source.entry.bytes.now result }
-        ensures places { StandsBehindHeader source.entry.bytes.now result }
+        ensures places { StandsBehindHeader source.entry.bytes.now 40 result }
         ensures asker { IsAskedBy (context_of head.now) result }
     {
         match read_with_room(room, source) {
@@ -123,7 +125,7 @@ impl Session {
         ensures reported { IsRowReported self.now.page_size self.now.options.0 head.now room
             (listing_row with_nodes)
             source.entry.bytes.now result }
-        ensures places { StandsBehindHeader source.entry.bytes.now result }
+        ensures places { StandsBehindHeader source.entry.bytes.now 40 result }
         ensures asker { IsAskedBy (context_of head.now) result }
     {
         match listing_meaning(room, source) {
@@ -143,7 +145,7 @@ impl Session {
     ) -> DecodedRequest<'a>
         ensures reported { IsRowReported self.now.page_size self.now.options.0 head.now room init_row
             source.entry.bytes.now result }
-        ensures places { StandsBehindHeader source.entry.bytes.now result }
+        ensures places { StandsBehindHeader source.entry.bytes.now 40 result }
         ensures asker { IsAskedBy (context_of head.now) result }
     {
         match init_meaning(source) {
@@ -164,7 +166,7 @@ impl Session {
     ) -> DecodedRequest<'a>
         ensures reported { IsRowReported self.now.page_size self.now.options.0 head.now room write_row
             source.entry.bytes.now result }
-        ensures places { StandsBehindHeader source.entry.bytes.now result }
+        ensures places { StandsBehindHeader source.entry.bytes.now 40 result }
         ensures asker { IsAskedBy (context_of head.now) result }
     {
         let len = source.bytes.len().saturating_sub(WRITE_IN_LEN);

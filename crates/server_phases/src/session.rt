@@ -2,6 +2,7 @@
 
 ghost use Rattle.std.specs.Prelude.{◌≡◌, List, ℕ, length, drop, IsTrue, bit_and};
 ghost use Rattle.server_replies.specs.PageSizes.{is_page_size};
+ghost use Rattle.server_requests.specs.Fronts.{first_name_at};
 ghost use Rattle.virtiofsd_fuse.specs.Grammar.{meaning, known_options};
 ghost use Rattle.virtiofsd_fuse.specs.Serving.{setting};
 ghost use Rattle.server_phases.specs.Asking.{IsDecoded, HasAsker, HasAskerByFront, IsRequestFront};
@@ -69,7 +70,7 @@ impl Session {
     pub fn ask<'a>(&self, request: &'a [u8], room: usize) -> DecodedRequest<'a>
         ensures reported { IsDecoded (setting self.now.page_size self.now.options.0 room)
             (meaning self.now.options.0 request.now room) (drop 80 request.now) result }
-        ensures places { DecodedStandsIn request.now result }
+        ensures places { DecodedStandsIn request.now (first_name_at self.now.options.0 request.now) result }
         ensures asker { HasAsker request.now result }
     {
         let mut source = Flat { bytes: request };
@@ -89,7 +90,7 @@ impl Session {
             → IsRequestFront front.now request
             → IsDecodedByFront (setting self.now.page_size self.now.options.0 room)
             (meaning self.now.options.0 request room) (drop 80 request) result }
-        ensures places { FrontStandsIn front.now result }
+        ensures places { FrontStandsIn self.now.options.0 front.now result }
         ensures asker { (request : List ℕ)
             → len ≡ length request
             → IsRequestFront front.now request

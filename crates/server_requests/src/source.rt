@@ -2,7 +2,7 @@
 
 ghost use Rattle.std.specs.Prelude.{◌≡◌, ◌+◌, ◌-◌, ◌≤◌, ◌*◌, ◌&&◌, ℕ, Bool, true, false, List, [], ◌++◌};
 ghost use Rattle.std.specs.Prelude.{length, Ok, Err, IfOk, IfErr, OnOk};
-ghost use Rattle.fuse_values.specs.Places.{LiesAtEither, StandsIn};
+ghost use Rattle.fuse_values.specs.Places.{StandsIn};
 ghost use Rattle.fuse_values.specs.Values.{pairs_in};
 ghost use Rattle.server_requests.specs.Reading.{Faults, many, record_parser, read_result, value_of};
 ghost use Rattle.server_requests.specs.Fronts.{counted, counted_split, flags2_of, forget_pair, is_split};
@@ -237,7 +237,7 @@ pub fn setxattr_and_bytes<'a, S: Source<'a> + Drop>(
         → Err (Faults e) ≡ value_of (setxattr_front options.0 len (S.left source))) }
     ensures places { IfOk result (λ x. (header : List ℕ) → length header ≡ 40
         → StandsIn (header ++ S.left source) x.bytes) }
-    ensures at { IfOk result (λ x. LiesAtEither x.bytes) }
+    ensures at { IfOk result (λ x. x.bytes.at ≡ 40 + setxattr_len options.0) }
     ensures in_place { (S.splits && counted_split len (setxattr_len options.0) (S.segments source)) ≡ false
         → IfErr result (λ e. is_memory e ≡ false) }
 {

@@ -55,15 +55,15 @@ RowReads splits takes h options row bytes reported =
     ReadsAs splits (takes (given h options room)) h reported
     (ended h.unique (row (given h options room) bytes))
 
--- the names of a call that was read lie in the request
-abbrev pub MeaningStandsIn : (request : List ℕ) → RequestMeaning → Type 0
-MeaningStandsIn request (value.Call call) = CallStandsIn request call
-MeaningStandsIn request _ = Unit {0}
+-- the names of a call that was read lie in the request, the first one at this offset
+abbrev pub MeaningStandsIn : (request : List ℕ) → (first : ℕ) → RequestMeaning → Type 0
+MeaningStandsIn request first (value.Call call) = CallStandsIn request first call
+MeaningStandsIn request first _ = Unit {0}
 
 -- and the request is any header (struct fuse_in_header, 40 bytes) with the bytes behind it
-abbrev pub StandsBehindHeader : (bytes : List ℕ) → RequestMeaning → Type 0
-StandsBehindHeader bytes reported =
-    (header : List ℕ) → length header ≡ 40 → MeaningStandsIn (header ++ bytes) reported
+abbrev pub StandsBehindHeader : (bytes : List ℕ) → (first : ℕ) → RequestMeaning → Type 0
+StandsBehindHeader bytes first reported =
+    (header : List ℕ) → length header ≡ 40 → MeaningStandsIn (header ++ bytes) first reported
 
 -- the result of reading a READ with this meaning and room: its record, or the fault
 abbrev pub ReadIsRead : InHeader → (room : ℕ) → Result ReadIn Error → Meaning → Type 0

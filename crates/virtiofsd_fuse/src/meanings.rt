@@ -1,8 +1,8 @@
 //! The meanings of requests with at most one plain call. `Server` performs the call;
 //! `server_phases` returns it to its caller.
 
-ghost use Rattle.std.specs.Prelude.{◌≡◌, ◌||◌, true, false};
-ghost use Rattle.server_requests.specs.Fronts.{counted_split, setxattr_len};
+ghost use Rattle.std.specs.Prelude.{◌≡◌, ◌+◌, ◌||◌, Some, true, false};
+ghost use Rattle.server_requests.specs.Fronts.{counted_split, record_len, setxattr_len};
 ghost use Rattle.virtiofsd_fuse.specs.Grammar.{row, header_row, record_row, name_row, record_name_row};
 ghost use Rattle.virtiofsd_fuse.specs.Grammar.{two_names_row, new_name_row};
 ghost use Rattle.virtiofsd_fuse.specs.Grammar.{symlink_row, getxattr_row, listxattr_row, setxattr_row};
@@ -54,7 +54,7 @@ fn header_row<'a, R: PlainValue, S: Source<'a> + Drop>(
 ) -> RequestMeaning<'a>
     ensures reads { RowReads S.splits (λ g. false) head.now options.0 (header_row R.call)
         (S.left source) result }
-    ensures places { StandsBehindHeader (S.left source) result }
+    ensures places { StandsBehindHeader (S.left source) 40 result }
 {
     RequestMeaning::Call(R::value(head))
 }
@@ -68,7 +68,7 @@ fn record_row<'a, R: RecordValue, S: Source<'a> + Drop>(
 ) -> RequestMeaning<'a>
     ensures reads { RowReads S.splits (λ g. false) head.now options.0 (record_row R.Record.shape R.call)
         (S.left source) result }
-    ensures places { StandsBehindHeader (S.left source) result }
+    ensures places { StandsBehindHeader (S.left source) 40 result }
 {
     let mut source = source;
     match source.record() {
@@ -86,7 +86,7 @@ fn name_row<'a, R: NameValue, S: Source<'a> + Drop>(
 ) -> RequestMeaning<'a>
     ensures reads { RowReads S.splits (λ g. counted_split g.header.len 0 (S.segments source))
         head.now options.0 (name_row R.call) (S.left source) result }
-    ensures places { StandsBehindHeader (S.left source) result }
+    ensures places { StandsBehindHeader (S.left source) 40 result }
 {
     match source.counted(head.len, 0) {
         Ok(bytes) => match last_name(bytes) {
@@ -106,7 +106,7 @@ fn record_name_row<'a, R: RecordNameValue, S: Source<'a> + Drop>(
 ) -> RequestMeaning<'a>
     ensures reads { RowReads S.splits (λ g. counted_split g.header.len R.Record.SIZE (S.segments source))
         head.now options.0 (record_name_row R.Record.shape R.Record.SIZE R.call) (S.left source) result }
-    ensures places { StandsBehindHeader (S.left source) result }
+    ensures places { StandsBehindHeader (S.left source) (40 + R.Record.SIZE) result }
 {
     match record_and_bytes::<R::Record, S>(source, head.len) {
         Ok(front) => match last_name(front.bytes) {
@@ -126,7 +126,7 @@ fn two_names_row<'a, R: TwoNamesValue, S: Source<'a> + Drop>(
 ) -> RequestMeaning<'a>
     ensures reads { RowReads S.splits (λ g. counted_split g.header.len R.Record.SIZE (S.segments source))
         head.now options.0 (two_names_row R.Record.shape R.Record.SIZE R.call) (S.left source) result }
-    ensures places { StandsBehindHeader (S.left source) result }
+    ensures places { StandsBehindHeader (S.left source) (40 + R.Record.SIZE) result }
 {
     match record_and_bytes::<R::Record, S>(source, head.len) {
         Ok(front) => match two_names(front.bytes) {
@@ -148,7 +148,7 @@ fn new_name_row<'a, R: NewNameValue, S: Source<'a> + Drop>(
         (λ g. row_owns g (new_name_row R.Record.shape R.Record.SIZE R.call) (S.left source)
         || counted_split g.header.len R.Record.SIZE (S.segments source))
         head.now options.0 (new_name_row R.Record.shape R.Record.SIZE R.call) (S.left source) result }
-    ensures places { StandsBehindHeader (S.left source) result }
+    ensures places { StandsBehindHeader (S.left source) (40 + R.Record.SIZE) result }
 {
     match record_and_bytes::<R::Record, S>(source, head.len) {
         Ok(front) => match new_name(options, front.bytes) {
@@ -172,7 +172,7 @@ fn symlink_row<'a, S: Source<'a> + Drop>(
     ensures reads { RowReads S.splits (λ g. row_owns g symlink_row (S.left source)
         || counted_split g.header.len 0 (S.segments source))
         head.now options.0 symlink_row (S.left source) result }
-    ensures places { StandsBehindHeader (S.left source) result }
+    ensures places { StandsBehindHeader (S.left source) 40 result }
 {
     match source.counted(head.len, 0) {
         Ok(bytes) => match new_link(options, bytes) {
@@ -195,7 +195,7 @@ fn getxattr_row<'a, S: Source<'a> + Drop>(
 ) -> RequestMeaning<'a>
     ensures reads { RowReads S.splits (λ g. counted_split g.header.len 8 (S.segments source))
         head.now options.0 getxattr_row (S.left source) result }
-    ensures places { StandsBehindHeader (S.left source) result }
+    ensures places { StandsBehindHeader (S.left source) 48 result }
 {
     match record_and_bytes::<GetxattrIn, S>(source, head.len) {
         Ok(front) => {
@@ -220,7 +220,7 @@ fn listxattr_row<'a, S: Source<'a> + Drop>(
 ) -> RequestMeaning<'a>
     ensures reads { RowReads S.splits (λ g. false) head.now options.0 listxattr_row
         (S.left source) result }
-    ensures places { StandsBehindHeader (S.left source) result }
+    ensures places { StandsBehindHeader (S.left source) 40 result }
 {
     let mut source = source;
     match source.record::<GetxattrIn>() {
@@ -244,7 +244,7 @@ fn setxattr_row<'a, S: Source<'a> + Drop>(
     ensures reads { RowReads S.splits
         (λ g. counted_split g.header.len (setxattr_len g.options) (S.segments source))
         head.now options.0 setxattr_row (S.left source) result }
-    ensures places { StandsBehindHeader (S.left source) result }
+    ensures places { StandsBehindHeader (S.left source) (40 + setxattr_len options.0) result }
 {
     match setxattr_and_bytes(source, options, head.len) {
         Ok(front) => match name_and_value(front.bytes, front.record.size) {
@@ -283,7 +283,7 @@ pub fn row_meaning<'a, S: Source<'a> + Drop>(
     requires { is_single opcode ≡ true }
     ensures reads { RowReads S.splits (λ g. takes_memory g opcode (S.segments source) (S.left source))
         head.now options.0 (λ g. row g opcode) (S.left source) result }
-    ensures places { StandsBehindHeader (S.left source) result }
+    ensures places { StandsBehindHeader (S.left source) (40 + record_len options.0 (Some opcode)) result }
 {
     by_shape!(opcode, head, options, source, {
         header_row: Readlink Statfs Getlk Setlk Setlkw Bmap Destroy Ioctl Poll NotifyReply Syncfs TmpFile;

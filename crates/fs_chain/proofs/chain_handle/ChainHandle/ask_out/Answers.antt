@@ -5,4 +5,5 @@ returns-clause-asker c =
     λ whole long front h more reads. c.keep_front.ensures.asker whole (c.ask_front-asked.ensures.asker whole long front) h more reads
 
 pub returns-clause-places : goal.returns-clause-places
-returns-clause-places c = c.keep_front.ensures.places c.args.request.now c.ask_front-asked.ensures.places
+returns-clause-places c =
+    c.keep_front.ensures.places c.args.session.options.0 c.args.request.now c.ask_front-asked.ensures.places

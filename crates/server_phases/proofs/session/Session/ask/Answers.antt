@@ -1,10 +1,9 @@
-use Rattle.std.proofs.Common.{List, ℕ, refl, subst, sym}
+use Rattle.std.proofs.Common.{refl, sym}
 use Rattle.fuse_in.specs.Records.{in_header}
 use Rattle.server_requests.proofs.PlaceLemmas.{record_front}
 use Rattle.virtiofsd_fuse.proofs.Rows.{meaning_head, meaning_fault}
-use Rattle.server_phases.specs.Asking.{DecodedStandsIn}
 use Rattle.server_phases.proofs.Fronts.{data_behind}
-use Rattle.server_phases.proofs.Reporting.{has_asker}
+use Rattle.server_phases.proofs.Reporting.{has_asker, placed_by}
 use Rattle.server_phases.proofs.session.Session.ask.Goals as goal
 
 pub returns-in-Ok-clause-reported : goal.returns-in-Ok-clause-reported
@@ -27,4 +26,5 @@ returns-in-Ok-clause-asker c =
 pub returns-in-Ok-clause-places : goal.returns-in-Ok-clause-places
 returns-in-Ok-clause-places c =
     let header = record_front in_header c.args.request.now _ c.in-Ok.head c.in-Ok.ensures.reads in
-    subst (λ (l : List ℕ). DecodedStandsIn l c.ask_head.result) header.2 (c.ask_head.ensures.places header.0 header.1)
+    placed_by c.args.self.now.options.0 c.args.request.now _ c.in-Ok.head c.ask_head.result c.in-Ok.ensures.reads header.0 header.2
+    (c.ask_head.ensures.places header.0 header.1)

@@ -24,7 +24,7 @@ pub returns-in-Pairs-clause-places : goal.returns-in-Pairs-clause-places
 returns-in-Pairs-clause-places c = λ header forty.
     let more = c.forgets_meaning.new.source.bytes.now in
     let front = c.in-Pairs.ensures.places in
-    subst (λ (l : List ℕ). DecodedStandsIn l c.ask_pairs.result)
+    subst (λ (l : List ℕ). DecodedStandsIn l 48 c.ask_pairs.result)
     (append_assoc header front.0 more ∙ ap (λ (l : List ℕ). header ++ l) front.2)
     (c.ask_pairs.ensures.places (header ++ front.0)
     (length-append header front.0 ∙ ap (λ (n : ℕ). n + length front.0) forty ∙ ap (λ (n : ℕ). 40 + n) front.1))

@@ -8,4 +8,4 @@ pub returns-clause-asker : goal.returns-clause-asker
 returns-clause-asker c = λ request len is. c.ask_write_front.ensures.asker request is
 
 pub returns-clause-places : goal.returns-clause-places
-returns-clause-places c = c.ask_write_front.ensures.places c.args.front.now
+returns-clause-places c = c.ask_write_front.ensures.places c.args.front.now _

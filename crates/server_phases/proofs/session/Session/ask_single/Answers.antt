@@ -23,4 +23,4 @@ returns-in-Fault-clause-reported c =
 
 pub returns-in-Call-clause-places : goal.returns-in-Call-clause-places
 returns-in-Call-clause-places c = λ header forty.
-    c.called.ensures.places (header ++ c.args.source.bytes.now) (c.in-Call.ensures.places header forty)
+    c.called.ensures.places (header ++ c.args.source.bytes.now) _ (c.in-Call.ensures.places header forty)
