@@ -1,6 +1,6 @@
 //! Decoding requests by the row of their opcode.
 
-ghost use Rattle.std.specs.Prelude.{◌≡◌, ◌≤◌, ◌+◌, ℕ, List, ◌++◌, length, true, Some};
+ghost use Rattle.std.specs.Prelude.{◌≡◌, ◌+◌, ℕ, List, ◌++◌, length, true, Some};
 ghost use Rattle.fuse_fs.specs.Answers.{context_of};
 ghost use Rattle.server_requests.specs.Fronts.{record_len};
 ghost use Rattle.virtiofsd_fuse.specs.Grammar.{row, forgets_asked, batch_forget_row, init_row, listing_row};
@@ -19,6 +19,7 @@ use fuse_in::InHeader;
 use fuse_wire::Opcode;
 use server_replies::fronts::Front;
 use server_replies::init::versions;
+use server_requests::forgets::PairCount;
 use server_requests::source::Flat;
 use virtiofsd_fuse::{
     ForgetsMeaning, InitMeaning, ListingMeaning, RequestMeaning, forgets_meaning, init_meaning,
@@ -51,23 +52,22 @@ impl Session {
         }
     }
 
-    // BATCH_FORGET of `count` pairs.
+    // BATCH_FORGET of so many pairs.
     fn ask_pairs<'a>(
         &self,
         head: &InHeader,
-        count: u32,
+        pairs: PairCount,
         room: usize,
         source: Flat<'a>,
     ) -> DecodedRequest<'a>
-        requires { count ≤ 65536 }
         ensures reported { (bytes : List ℕ) → IsDecoded (setting self.now.page_size self.now.options.0 room)
-            (ended head.now.unique (forgets_asked count (given head.now self.now.options.0 room)
+            (ended head.now.unique (forgets_asked pairs.count (given head.now self.now.options.0 room)
             source.entry.bytes.now)) bytes result }
         ensures places { (front : List ℕ) → length front ≡ 48
             → DecodedStandsIn (front ++ source.entry.bytes.now) 48 result }
         ensures asker { IsAskedBy (context_of head.now) result }
     {
-        match source.pairs(count) {
+        match source.pairs(pairs) {
             Ok(counts) => pairs_asked(head, counts, room),
             Err(error) => DecodedRequest::Fault(error),
         }
@@ -88,7 +88,7 @@ impl Session {
     {
         let mut source = source;
         match forgets_meaning(&mut source) {
-            ForgetsMeaning::Pairs(count) => self.ask_pairs(head, count, room, source),
+            ForgetsMeaning::Pairs(pairs) => self.ask_pairs(head, pairs, room, source),
             ForgetsMeaning::Error(error) => refused(head, error, room),
             ForgetsMeaning::Fault(error) => DecodedRequest::Fault(error),
         }

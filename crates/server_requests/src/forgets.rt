@@ -1,6 +1,6 @@
 //! The pairs of BATCH_FORGET.
 
-ghost use Rattle.std.specs.Prelude.{◌≡◌, Ok, Err, IfOk, IfErr, false};
+ghost use Rattle.std.specs.Prelude.{◌≡◌, ◌≤◌, Ok, Err, IfOk, IfErr, false};
 ghost use Rattle.fuse_fs.specs.Answers.{pair_numbers};
 ghost use Rattle.server_segments.specs.Errors.{is_memory};
 ghost use Rattle.server_requests.specs.Reading.{Faults, many};
@@ -14,6 +14,14 @@ use std::alloc::Global;
 
 /// The length in bytes of `struct fuse_forget_one`.
 pub(crate) const FORGET_ONE_LEN: usize = 16;
+
+/// The number of pairs of a BATCH_FORGET: at most 65,536, which are 2^20 bytes.
+#[derive(Clone, Copy)]
+pub struct PairCount {
+    /// The number.
+    pub count: u32,
+    ghost few: { count ≤ 65536 },
+}
 
 /// The next `count` pairs of a node and the number to subtract from its lookup count (`struct
 /// fuse_forget_one`, 16 bytes each). Errors, in this order:

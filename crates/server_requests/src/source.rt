@@ -10,7 +10,7 @@ ghost use Rattle.server_requests.specs.Fronts.{setxattr_front, setxattr_len, wit
 ghost use Rattle.fuse_fs.specs.Lengths.{past};
 ghost use Rattle.server_segments.specs.Errors.{is_memory};
 
-use crate::forgets::FORGET_ONE_LEN;
+use crate::forgets::{FORGET_ONE_LEN, PairCount};
 use crate::names::read_counted;
 use crate::records::read_record;
 use crate::xattrs::{has_setxattr_ext, with_no_flags};
@@ -101,22 +101,21 @@ impl<'a> Source<'a> for Flat<'a> {
 }
 
 impl<'a> Flat<'a> {
-    /// The bytes of the next `count` pairs of BATCH_FORGET (`struct fuse_forget_one`, 16 bytes each),
+    /// The bytes of the next pairs of BATCH_FORGET (`struct fuse_forget_one`, 16 bytes each),
     /// which lie behind 48 bytes, or `DecodeMessage` if there are fewer.
     #[tactic(auto, using(crate::proofs::ForgetLemmas::pairs_cut, crate::proofs::ForgetLemmas::pairs_read, crate::proofs::PlaceLemmas::taken_in))]
-    pub fn pairs(self, count: u32) -> Result<Placed<'a>, Error>
-        requires { count ≤ 65536 }
+    pub fn pairs(self, pairs: PairCount) -> Result<Placed<'a>, Error>
         ensures bytes { IfOk result
-            (λ p. Ok (pairs_in p.bytes.now) ≡ value_of (many count forget_pair self.entry.bytes.now)) }
-        ensures whole { IfOk result (λ p. length p.bytes.now ≡ 16 * count) }
+            (λ p. Ok (pairs_in p.bytes.now) ≡ value_of (many pairs.count forget_pair self.entry.bytes.now)) }
+        ensures whole { IfOk result (λ p. length p.bytes.now ≡ 16 * pairs.count) }
         ensures places { IfOk result
             (λ p. (front : List ℕ) → length front ≡ 48 → StandsIn (front ++ self.entry.bytes.now) p) }
         ensures at { IfOk result (λ p. p.at ≡ 48) }
         ensures fault { IfErr result
-            (λ e. Err (Faults e) ≡ value_of (many count forget_pair self.entry.bytes.now)) }
+            (λ e. Err (Faults e) ≡ value_of (many pairs.count forget_pair self.entry.bytes.now)) }
     {
         let bytes = self.bytes;
-        let len = count as usize * FORGET_ONE_LEN;
+        let len = pairs.count as usize * FORGET_ONE_LEN;
         if bytes.len() < len {
             return Err(Error::DecodeMessage);
         }

@@ -87,13 +87,13 @@ InitIsRead h (init.Fault e) m = (m ≡ IsFault e) × (is_memory e ≡ false)
 
 -- the result of reading a BATCH_FORGET's record: its pairs are still to be read from the rest
 abbrev pub ForgetsAreRead : Given → ForgetsMeaning → (rest : List ℕ) → Meaning → Type 0
-ForgetsAreRead g (forgets.Pairs count) rest m =
-    (m ≡ ended g.header.unique (forgets_asked count g rest)) × (count ≤ 65536)
+ForgetsAreRead g (forgets.Pairs pairs) rest m =
+    (m ≡ ended g.header.unique (forgets_asked pairs.count g rest)) × (pairs.count ≤ 65536)
 ForgetsAreRead g (forgets.Error errno) rest m = m ≡ Replies (error_bytes g.header.unique errno)
 ForgetsAreRead g (forgets.Fault e) rest m = (m ≡ IsFault e) × (is_memory e ≡ false)
 
 -- the pairs of a BATCH_FORGET follow its record of 8 bytes (struct fuse_batch_forget_in)
 abbrev pub ForgetsAreBehind : ForgetsMeaning → (bytes more : List ℕ) → Type 0
-ForgetsAreBehind (forgets.Pairs count) bytes more =
+ForgetsAreBehind (forgets.Pairs pairs) bytes more =
     (front : List ℕ) × (length front ≡ 8) × (front ++ more ≡ bytes)
 ForgetsAreBehind _ bytes more = Unit {0}

@@ -63,8 +63,8 @@ impl<F: FileSystem> Server<F> {
     {
         let mut source = source;
         match forgets_meaning(&mut source) {
-            ForgetsMeaning::Pairs(count) => {
-                self.forget_pairs(alloc, head, count, &mut source.reader, w)
+            ForgetsMeaning::Pairs(pairs) => {
+                self.forget_pairs(alloc, head, pairs.count, &mut source.reader, w)
             }
             ForgetsMeaning::Error(error) => reply_error(w, head.unique, error),
             ForgetsMeaning::Fault(error) => Err(error),

@@ -16,6 +16,7 @@ use fuse_wire::constants::{KERNEL_VERSION, MIN_KERNEL_MINOR_VERSION};
 use fuse_wire::{Errno, FsOptions};
 use server_replies::init::MAX_BUFFER_SIZE;
 use server_replies::replies::OUT_HEADER_LEN;
+use server_requests::forgets::PairCount;
 use server_requests::source::{Source, flags2};
 use server_segments::Error;
 
@@ -127,7 +128,7 @@ pub fn init_meaning<'a, S: Source<'a> + Drop>(source: S) -> InitMeaning
 #[derive(Drop)]
 pub enum ForgetsMeaning {
     /// The number of pairs behind the record: at most 2^20 bytes of them.
-    Pairs(u32),
+    Pairs(PairCount),
     /// No call: the reply is this error.
     Error(Errno),
     /// No call and no reply: the request has this fault.
@@ -146,7 +147,9 @@ pub fn forgets_meaning<'a, S: Source<'a>>(source: &mut S) -> ForgetsMeaning
             if request.count > MAX_FORGETS {
                 return ForgetsMeaning::Error(Errno::ENOMEM);
             }
-            ForgetsMeaning::Pairs(request.count)
+            ForgetsMeaning::Pairs(PairCount {
+                count: request.count,
+            })
         }
         Err(error) => ForgetsMeaning::Fault(error),
     }

@@ -5,9 +5,6 @@ use Rattle.server_phases.specs.Asking.{DecodedStandsIn}
 use Rattle.server_phases.proofs.Reporting.{fault_reported}
 use Rattle.server_phases.proofs.session.Session.ask_batch_forget.Goals as goal
 
-pub ask_pairs-requires : goal.ask_pairs-requires
-ask_pairs-requires c = (c.in-Pairs.ensures.reads c.args.head.now c.args.self.now.options.0 c.args.room).1
-
 pub returns-in-Pairs-clause-reported : goal.returns-in-Pairs-clause-reported
 returns-in-Pairs-clause-reported c = rw (c.in-Pairs.ensures.reads c.args.head.now c.args.self.now.options.0 c.args.room).0
     (c.ask_pairs.ensures.reported (drop 40 c.args.source.bytes.now))

@@ -6,10 +6,12 @@ use Rattle.server_phases.proofs.session.Session.ask_pairs.Goals as goal
 pub returns-in-Ok-clause-reported : goal.returns-in-Ok-clause-reported
 returns-in-Ok-clause-reported c =
     λ bytes. c.pairs_asked.ensures.reported c.args.self.now.page_size c.args.self.now.options.0 _ bytes
-    (whole_pairs c.args.count c.in-Ok.counts.bytes.now c.in-Ok.ensures.whole)
-    (forgets_read c.args.count (given c.args.head.now c.args.self.now.options.0 c.args.room) _ _ c.requires c.in-Ok.ensures.bytes)
+    (whole_pairs c.args.pairs.count c.in-Ok.counts.bytes.now c.in-Ok.ensures.whole)
+    (forgets_read c.args.pairs.count (given c.args.head.now c.args.self.now.options.0 c.args.room) _ _ c.args.pairs.few
+    c.in-Ok.ensures.bytes)
 
 pub returns-in-Err-clause-reported : goal.returns-in-Err-clause-reported
 returns-in-Err-clause-reported c =
     λ bytes. fault_reported (setting c.args.self.now.page_size c.args.self.now.options.0 c.args.room) _ _
-    (forgets_cut c.args.count (given c.args.head.now c.args.self.now.options.0 c.args.room) _ _ c.requires c.in-Err.ensures.fault)
+    (forgets_cut c.args.pairs.count (given c.args.head.now c.args.self.now.options.0 c.args.room) _ _ c.args.pairs.few
+    c.in-Err.ensures.fault)
