@@ -1,8 +1,8 @@
 -- Where a label lies among the extensions that were read.
-use Rattle.std.proofs.Common.{◌≡◌, ◌≢◌, ◌∙◌, ℕ, suc, ◌+◌, ◌-◌, ◌<◌, ◌≤◌, Bool, true, false, not, cond, List, ◌++◌, length, take, drop}
+use Rattle.std.proofs.Common.{◌≡◌, ◌≢◌, ◌∙◌, ℕ, suc, ◌+◌, ◌-◌, ◌<◌, ◌≤◌, Bool, true, false, not, List, ◌++◌, length, take, drop}
 use Rattle.std.proofs.Common.{Result, Some, None, Ok, Err, refl, ap, sym, subst, arith, true≢false, ⊎_elim}
 use Rattle.std.specs.Prelude.{◌&&◌, IfOk, nat_le, nat_lt}
-use Rattle.std.proofs.lemmas.Bool.{cases_lt, ltb-false}
+use Rattle.std.proofs.lemmas.Bool.{cases_lt}
 use Rattle.std.proofs.lemmas.Bool.Decides.{nat_tests}
 use Rattle.std.proofs.lemmas.List.{drop_at, take-append-le}
 use Rattle.fuse_in.specs.Shapes.{made}
@@ -13,21 +13,10 @@ use Rattle.fuse_values.specs.declared.received.Label.{Label}
 use Rattle.fuse_values.specs.Places.{LabelStandsAt, LabelStandsIn, NoLabelBefore, StandsIn}
 use Rattle.fuse_values.specs.Places.{extension_at, extension_start, extension_type}
 use Rattle.server_segments.specs.declared.error.Error.{Error}
-use Rattle.server_segments.specs.declared.error.Error.TheVariants.{DecodeMessage}
 use Rattle.server_requests.specs.declared.extensions.SoFar.{SoFar}
-use Rattle.server_requests.specs.Reading.{Faults, Parsed, and_then, record_parser}
+use Rattle.server_requests.specs.Reading.{record_parser}
 use Rattle.server_requests.specs.Labels.{LabelSoFar, ReadSoFar}
-
--- the record that was read, or another one
-abbrev record_of : {R : Type 0} → R → Parsed R → R
-record_of other (Ok x) = x.0
-record_of other (Err e) = other
-
-made_by : {R : Type 0} (test : Bool) (n : ℕ) (f : List ℕ → R) (all more : List ℕ) (r : R) → nat_lt (length all) n ≡ test
-    → Ok (r, more) ≡ and_then {A = List ℕ × List ℕ} {B = R × List ℕ} (cond test (Err (Faults DecodeMessage)) (Ok (take n all, drop n all)))
-    (λ x. Ok (f x.0, x.1)) → (r ≡ f (take n all)) × (n ≤ length all)
-made_by true n f all more r is e = absurd (cc)
-made_by false n f all more r is e = (ap (record_of r) e, ltb-false (length all) n is)
+use Rattle.server_requests.proofs.PlaceLemmas.{record_by}
 
 -- the header that was read is the one that lies in the request
 header_read : (request more : List ℕ) (p : Placed) (r : ExtHeader) → StandsIn request p
@@ -35,9 +24,9 @@ header_read : (request more : List ℕ) (p : Placed) (r : ExtHeader) → StandsI
 unfolding StandsIn extension_at record_parser
 header_read request more p r here e =
     let bytes = p.bytes.now in
-    let is = made_by (nat_lt (length bytes) 8) 8 (made ext_header.parts ext_header.make) bytes more r refl e in
+    let is = record_by (nat_lt (length bytes) 8) 8 (made ext_header.parts ext_header.make) bytes more r refl e in
     let rest : drop p.at request ≡ bytes ++ here.1 = rw here.2 (drop_at here.0 (bytes ++ here.1) p.at here.3) in
-    let front : take 8 (drop p.at request) ≡ take 8 bytes = rw rest (take-append-le 8 bytes here.1 is.1) in
+    let front : take 8 (drop p.at request) ≡ take 8 bytes = rw rest (take-append-le 8 bytes here.1 is.2) in
     ap (made ext_header.parts ext_header.make) front ∙ sym is.0
 
 -- no extension was read

@@ -77,16 +77,20 @@ pub taken_in : (front all : List ℕ) (n : ℕ) (p : Placed) → p.bytes.now ≡
 taken_in front all n p e h =
     front_in front all (drop n all) p (sym (take-append-drop n all) ∙ ap (λ (l : List ℕ). l ++ drop n all) (sym e)) h
 
--- the bytes behind a record
+-- a record that was read, or another one, and the bytes behind it
+abbrev record_of : {R : Type 0} → R → Parsed R → R
+record_of other (Ok x) = x.0
+record_of other (Err e) = other
+
 abbrev rest_of : {R : Type 0} → Parsed R → List ℕ
 rest_of (Ok x) = x.1
 rest_of (Err e) = []
 
-record_by : {R : Type 0} (test : Bool) (n : ℕ) (f : List ℕ → R) (all more : List ℕ) (r : R) → nat_lt (length all) n ≡ test
+pub record_by : {R : Type 0} (test : Bool) (n : ℕ) (f : List ℕ → R) (all more : List ℕ) (r : R) → nat_lt (length all) n ≡ test
     → Ok (r, more) ≡ and_then {A = List ℕ × List ℕ} {B = R × List ℕ} (cond test (Err (Faults DecodeMessage)) (Ok (take n all, drop n all)))
-    (λ x. Ok (f x.0, x.1)) → (more ≡ drop n all) × (n ≤ length all)
+    (λ x. Ok (f x.0, x.1)) → (r ≡ f (take n all)) × (more ≡ drop n all) × (n ≤ length all)
 record_by true n f all more r is e = absurd (cc)
-record_by false n f all more r is e = (ap rest_of e, ltb-false (length all) n is)
+record_by false n f all more r is e = (ap (record_of r) e, ap rest_of e, ltb-false (length all) n is)
 
 -- the bytes of a record that was read
 pub record_front : {R : Type 0} (s : RecordShape R) (all more : List ℕ) (r : R) → Ok (r, more) ≡ record_parser s all
@@ -95,7 +99,7 @@ unfolding record_parser
 record_front s all more r e =
     let k = size s.parts in
     let is = record_by (nat_lt (length all) k) k (made s.parts s.make) all more r refl e in
-    (take k all, length-take-le k all is.1, ap (λ (l : List ℕ). take k all ++ l) is.0 ∙ take-append-drop k all)
+    (take k all, length-take-le k all is.2, ap (λ (l : List ℕ). take k all ++ l) is.1 ∙ take-append-drop k all)
 
 pub behind_record : {R : Type 0} (s : RecordShape R) (n : ℕ) → size s.parts ≡ n → (all more : List ℕ) (r : R) (p : Placed)
     → Ok (r, more) ≡ record_parser s all → ((front : List ℕ) → length front ≡ 40 + n → StandsIn (front ++ more) p)
