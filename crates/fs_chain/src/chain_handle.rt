@@ -1,7 +1,6 @@
 //! The handle, which keeps the state of one chain at a time.
 
 ghost use Rattle.std.specs.Prelude.{◌≡◌, ◌≤◌, [], Some, None, IfErr, IfSome, OnOk, OnErr, OnSome, true};
-ghost use Rattle.std.specs.Prelude.{false};
 ghost use Rattle.fs_queue.specs.Taking.{all_reach, total_len, access_of, of_direction};
 ghost use Rattle.fs_regions.specs.Places.{places_in, untranslated};
 ghost use Rattle.fs_regions.specs.Windows.{HasNoWindowFrom, IsWindowFrom};

@@ -1,7 +1,7 @@
 //! A chain is answered by a copy of the front of its request, which shows the data that may stay in
 //! guest memory. No byte of the request is returned.
 
-ghost use Rattle.std.specs.Prelude.{◌≡◌, ◌↔◌, ℕ, ◌≤◌, ◌<◌, ◌^◌, length, map, IfNone, IfOk, IfSome, IsTrue};
+ghost use Rattle.std.specs.Prelude.{◌≡◌, ◌↔◌, ◌≤◌, ◌<◌, ◌^◌, length, map, IfNone, IfOk, IfSome, IsTrue};
 ghost use Rattle.std.specs.Prelude.{Ok, OnErr, []};
 ghost use Rattle.vm_memory_core.specs.Host.{lengths, shape};
 ghost use Rattle.vm_memory_core.specs.Window.{AllLieIn, byte_in, places};

@@ -58,9 +58,10 @@ pub enum Command<'a> {
     /// handle may be named.
     Notify(usize, bool),
     /// Sets the memory of each handle to these regions, of which this allocator makes copies. Any handle may
-    /// be named.
+    /// be named. An empty list is a bad argument, as each list is that no guest memory is made of.
     Remap(Global, &'a [MemoryRegion]),
-    /// Moves the device, and each handle to these regions. Any handle may be named.
+    /// Moves the device, and each handle to these regions. Any handle may be named. Lists are refused as by
+    /// `Remap`.
     Move(Global, &'a [MemoryRegion]),
 }
 

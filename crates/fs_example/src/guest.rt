@@ -1,7 +1,5 @@
 //! A guest that mounts, looks up a file and reads it, and then breaks its virtqueue.
 
-ghost use Rattle.std.specs.Prelude.{◌≡◌};
-ghost use Rattle.vm_memory_core.specs.Host.{shape};
 ghost use Rattle.vm_memory.specs.Layout.{HostHolds};
 
 use crate::driver::{QUEUE_SIZE, ROOM_LEN, offer, reply};

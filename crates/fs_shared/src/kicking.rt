@@ -2,7 +2,7 @@
 //! allocated before the file system is called.
 
 ghost use Rattle.std.specs.Prelude.{◌≡◌, ◌≤◌, ◌<◌, ◌+◌, [], false, IsTrue, IfOk, IfErr, OnErr, length};
-ghost use Rattle.std.specs.Prelude.{vec_len, vec_capacity};
+ghost use Rattle.std.specs.Prelude.{vec_capacity};
 ghost use Rattle.vm_memory_core.specs.Host.{lengths};
 ghost use Rattle.fs_queue.specs.Windows.{TakenLiesIn, room_places};
 ghost use Rattle.plain_machine.specs.Run.{Kick};

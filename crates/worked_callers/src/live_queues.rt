@@ -5,7 +5,6 @@ ghost use Rattle.std.specs.Prelude.{◌≡◌, ◌<◌, ◌^◌, ℕ, [], ◌∷
 ghost use Rattle.vm_memory.specs.Memory.{Memory};
 ghost use Rattle.fs_queue.specs.Returning.{Store, next_position};
 ghost use Rattle.plain_machine.specs.Run.{KickRun};
-ghost use Rattle.fs_chain.specs.declared.state.ChainState.TheVariants as at;
 ghost use Rattle.live_machine.specs.Live.{LiveState};
 ghost use Rattle.live_machine.specs.Overlap.{at_positions, state};
 ghost use Rattle.live_machine.specs.Serial.{IsAtRest, SerialRun, Single, plain, return_in, turn_of};

@@ -1,6 +1,6 @@
 //! Two threads that mark pages of one bitmap and gather its marks, without a lock.
 
-ghost use Rattle.std.specs.Prelude.{◌≡◌, ℕ, IfOk};
+ghost use Rattle.std.specs.Prelude.{◌≡◌, IfOk};
 ghost use Rattle.std.specs.NonZero.{non_zero_usize_get};
 ghost use Rattle.vm_bitmaps.specs.Pages.{pages_of};
 ghost use Rattle.vm_atomic_bitmaps.specs.Passes.{IsPassOf};
