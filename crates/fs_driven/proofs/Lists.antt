@@ -197,7 +197,7 @@ left_then (a ∷ before) (b ∷ now) (suc n) y left whole =
     let same : length now ≡ length before = omega (arith, whole) in left_then before now n y left same
 left_then _ _ n y left whole = absurd (omega (arith, whole))
 
-set_length : (now : List Command) (n : ℕ) (y : Command) → length (slice_set now n y) ≡ length now
+pub set_length : {A : Type 0} (now : List A) (n : ℕ) (y : A) → length (slice_set now n y) ≡ length now
 set_length (b ∷ now) (suc n) y = ap suc (set_length now n y)
 set_length _ _ y = refl
 

@@ -1,40 +1,65 @@
--- The results behind a driver's calls stay.
-use Rattle.std.proofs.Common.{◌≡◌, ◌+◌, ◌<◌, ◌≤◌, ℕ, zero, suc, List, [], ◌∷◌, arith, length, refl, ◌∙◌, zero-le}
+-- The commands and the results behind a driver's calls stay.
+use Rattle.std.proofs.Common.{◌≡◌, ◌+◌, ◌<◌, ◌≤◌, ℕ, zero, suc, List, [], ◌∷◌, arith, length, refl, subst, ◌∙◌, zero-le}
 use Rattle.std.specs.Prelude.{slice_set, drop}
 use Rattle.fs_driven.specs.declared.commands.Command.{Command}
 use Rattle.fs_driven.specs.declared.commands.Returned.{Returned}
+use Rattle.fs_driven.proofs.Lists.{set_length}
 
--- the results behind the first n are as they were, of n calls by these lists
-pub record Rest (places : List ℕ) (commands : List Command) (old now : List Returned) (n : ℕ) : Type 0 where
+-- n calls by these lists: the commands and the results behind the first n are as they were
+pub record Rest (places : List ℕ) (before left : List Command) (old now : List Returned) (n : ℕ) : Type 0 where
   pub same : (m : ℕ) → n ≤ m → drop m now ≡ drop m old
+  pub same_commands : (m : ℕ) → n ≤ m → drop m left ≡ drop m before
+  pub whole : length now ≡ length old
   pub in_places : n ≤ length places
-  pub in_commands : n ≤ length commands
+  pub in_commands : n ≤ length before
+  pub in_results : n ≤ length old
 
-pub none_yet : (places : List ℕ) (commands : List Command) (rs : List Returned) → Rest places commands rs rs 0
-none_yet places commands rs =
-    record { same = λ m behind. refl; in_places = zero-le; in_commands = zero-le }
+pub none_yet : (places : List ℕ) (commands : List Command) (rs : List Returned) → Rest places commands commands rs rs 0
+none_yet places commands rs = record {
+  same = λ m behind. refl;
+  same_commands = λ m behind. refl;
+  whole = refl;
+  in_places = zero-le;
+  in_commands = zero-le;
+  in_results = zero-le;
+}
 
-behind_set : (rs : List Returned) (n m : ℕ) (r : Returned) → n < m → drop m (slice_set rs n r) ≡ drop m rs
+behind_set : {A : Type 0} (rs : List A) (n m : ℕ) (r : A) → n < m → drop m (slice_set rs n r) ≡ drop m rs
 behind_set [] n m r less = refl
 behind_set (s ∷ rs) n zero r less = absurd (omega arith)
 behind_set (s ∷ rs) zero (suc m) r less = refl
 behind_set (s ∷ rs) (suc n) (suc m) r less = let before : n < m = omega arith in behind_set rs n m r before
 
-pub one_more : (places : List ℕ) (commands : List Command) (old now : List Returned) (n : ℕ) (r : Returned)
-    → Rest places commands old now n → n < length places → n < length commands
-    → Rest places commands old (slice_set now n r) (n + 1)
-one_more places commands old now n r rest in_places in_commands = record {
-  same = λ m behind.
-      let less : n < m = omega arith in
-      let before : n ≤ m = omega arith in behind_set now n m r less ∙ rest.same m before;
-  in_places = omega arith;
-  in_commands = omega arith;
-}
+pub one_more : (places : List ℕ) (before left : List Command) (old now : List Returned) (n : ℕ) (y : Command)
+    (r : Returned) → Rest places before left old now n → n < length places → n < length before → n < length now
+    → Rest places before (slice_set left n y) old (slice_set now n r) (n + 1)
+one_more places before left old now n y r rest in_places in_commands in_now =
+    let in_old : n < length old = subst (λ (k : ℕ). n < k) rest.whole in_now in
+    record {
+      same = λ m behind.
+          let less : n < m = omega arith in
+          let first : n ≤ m = omega arith in behind_set now n m r less ∙ rest.same m first;
+      same_commands = λ m behind.
+          let less : n < m = omega arith in
+          let first : n ≤ m = omega arith in behind_set left n m y less ∙ rest.same_commands m first;
+      whole = set_length now n r ∙ rest.whole;
+      in_places = omega arith;
+      in_commands = omega arith;
+      in_results = omega arith;
+    }
 
-pub behind_places : (places : List ℕ) (commands : List Command) (old now : List Returned) (n : ℕ)
-    → Rest places commands old now n → drop (length places) now ≡ drop (length places) old
-behind_places places commands old now n rest = rest.same (length places) rest.in_places
+pub behind_places : (places : List ℕ) (before left : List Command) (old now : List Returned) (n : ℕ)
+    → Rest places before left old now n → drop (length places) now ≡ drop (length places) old
+behind_places places before left old now n rest = rest.same (length places) rest.in_places
 
-pub behind_commands : (places : List ℕ) (commands : List Command) (old now : List Returned) (n : ℕ)
-    → Rest places commands old now n → drop (length commands) now ≡ drop (length commands) old
-behind_commands places commands old now n rest = rest.same (length commands) rest.in_commands
+pub behind_commands : (places : List ℕ) (before left : List Command) (old now : List Returned) (n : ℕ)
+    → Rest places before left old now n → drop (length before) now ≡ drop (length before) old
+behind_commands places before left old now n rest = rest.same (length before) rest.in_commands
+
+pub left_places : (places : List ℕ) (before left : List Command) (old now : List Returned) (n : ℕ)
+    → Rest places before left old now n → drop (length places) left ≡ drop (length places) before
+left_places places before left old now n rest = rest.same_commands (length places) rest.in_places
+
+pub left_results : (places : List ℕ) (before left : List Command) (old now : List Returned) (n : ℕ)
+    → Rest places before left old now n → drop (length old) left ≡ drop (length old) before
+left_results places before left old now n rest = rest.same_commands (length old) rest.in_results

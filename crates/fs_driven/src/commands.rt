@@ -560,9 +560,9 @@ fn perform<'a>(
 
 /// Performs commands one behind another, each for the handle in its place, and keeps what each returned: a
 /// run of the live machine, whose events are those of the calls by what they returned. `on`: the number of
-/// each handle's queue. It ends with the shortest of the last three lists. The results behind stay as they
-/// are.
-#[tactic(auto, using(crate::proofs::End::places, crate::proofs::End::commands, crate::proofs::End::results, crate::proofs::Rest::behind_places, crate::proofs::Rest::behind_commands))]
+/// each handle's queue. It ends with the shortest of the last three lists. Commands and results behind stay
+/// as they are.
+#[tactic(auto, using(crate::proofs::End::places, crate::proofs::End::commands, crate::proofs::End::results, crate::proofs::Rest::behind_places, crate::proofs::Rest::behind_commands, crate::proofs::Rest::left_places, crate::proofs::Rest::left_results))]
 pub fn drive_all<'a>(
     handles: &mut [ChainHandle],
     queues: &mut [QueueState],
@@ -577,6 +577,9 @@ pub fn drive_all<'a>(
     ensures behind_places { drop (length places.now) returned.new ≡ drop (length places.now) returned.old }
     ensures behind_commands { drop (length commands.old) returned.new
         ≡ drop (length commands.old) returned.old }
+    ensures left_places { drop (length places.now) commands.new ≡ drop (length places.now) commands.old }
+    ensures left_results { drop (length returned.old) commands.new
+        ≡ drop (length returned.old) commands.old }
 {
     let mut n = 0;
     while n < places.len() && n < commands.len() && n < returned.len() {

@@ -50,6 +50,10 @@ pub fn drive_new<'a>(
         (drop (length places.now) returned.new ≡ drop (length places.now) returned.old) }
     ensures behind_commands { OnOk result
         (drop (length commands.old) returned.new ≡ drop (length commands.old) returned.old) }
+    ensures left_places { OnOk result
+        (drop (length places.now) commands.new ≡ drop (length places.now) commands.old) }
+    ensures left_results { OnOk result
+        (drop (length returned.old) commands.new ≡ drop (length returned.old) commands.old) }
 {
     let one = new_handle(alloc, memories.0, limit)?;
     let other = new_handle(alloc, memories.1, limit)?;

@@ -32,6 +32,6 @@ loop-n-preserved c =
           (get_or c.args.places.now l.n 0) c.index-commands-n.result c.perform.new.command c.perform.new.returned
           l.invariant.so_far in_places in_commands in_returned (number_at c.args.places.now l.n in_places)
           c.index-commands-n.is one;
-      rest = one_more c.args.places.now c.args.commands.now c.args.returned.now l.returned l.n c.perform.new.returned
-          l.invariant.rest in_places in_initial;
+      rest = one_more c.args.places.now c.args.commands.now l.commands c.args.returned.now l.returned l.n c.perform.new.command
+          c.perform.new.returned l.invariant.rest in_places in_initial in_returned;
     }

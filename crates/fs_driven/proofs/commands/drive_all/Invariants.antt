@@ -7,7 +7,7 @@ abbrev pub invariant-loop-n : goal.invariant-loop-n
 invariant-loop-n l = record {
   so_far : SoFar l.on l.page_size l.initial.handles l.handles l.initial.queues l.queues l.places l.initial.commands l.commands
       l.returned l.n;
-  rest : Rest l.places l.initial.commands l.initial.returned l.returned l.n;
+  rest : Rest l.places l.initial.commands l.commands l.initial.returned l.returned l.n;
 }
 
 abbrev pub decreases-loop-n : goal.decreases-loop-n
