@@ -70,6 +70,12 @@ pub trait Server<Q> {
         false
     }
 
+    /// Whether another chain that waited has its answer by now. Then a sleeping thread is woken for
+    /// it: two answers that come close together may wake one thread. The default has no such chain.
+    fn has_answered(&mut self, _queued: &Q) -> bool {
+        false
+    }
+
     /// Pops the next chain, if one is available.
     ///
     /// # Errors

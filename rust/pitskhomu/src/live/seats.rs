@@ -37,6 +37,10 @@ impl Answered {
     fn next(&self) -> Option<usize> {
         self.numbers.lock().unwrap_or_else(PoisonError::into_inner).pop()
     }
+
+    fn is_empty(&self) -> bool {
+        self.numbers.lock().unwrap_or_else(PoisonError::into_inner).is_empty()
+    }
 }
 
 /// A worker is with a thread.
@@ -200,6 +204,10 @@ impl Server<State> for Hand<'_> {
             state.idle.extend(mem::replace(&mut self.seat, came));
         }
         self.is_resumed
+    }
+
+    fn has_answered(&mut self, _: &State) -> bool {
+        !self.shared.answered.is_empty()
     }
 
     fn pop(&mut self, state: &mut State) -> Result<Popped, Status> {

@@ -87,23 +87,24 @@ impl<Q: Queued> Locked<Q> {
     /// While this thread answers its chain, a sleeping thread serves the next ones, so
     /// notifications are enabled. Without a sleeping thread they are disabled, and this thread
     /// looks again later. Returns whether the caller must wake a thread after it has released the
-    /// lock: if they can't be enabled, or a chain is available. One at a time is enough: it pops a
-    /// chain, and wakes the next. (In the model the threads' event is pending from here on until
-    /// that thread has the lock, so others are `ProceedsBusy` without a call of their own.) Nor is
-    /// one woken while another thread `comes` from its call to the lock: it looks for a chain, and
-    /// does the same then.
+    /// lock: if they can't be enabled, a chain is available, or one that waited has its answer. One
+    /// at a time is enough: it takes a chain, and wakes the next. (In the model the threads' event
+    /// is pending from here on until that thread has the lock, so others are `ProceedsBusy` without
+    /// a call of their own.) Nor is one woken while another thread `comes` from its call to the
+    /// lock: it looks for a chain, and does the same then.
     fn hand_on(&mut self, server: &mut impl Server<Q>, comes: bool) -> bool {
+        let is_due = self.sleeping > 0 && !self.is_woken && !comes;
+        let mut wakes = is_due && server.has_answered(self); // such a chain has a worker
         let is_for_another = self.sleeping > 0 && self.has_room();
-        if !is_for_another && matches!(self.told, Some((_, false, _))) {
-            return false; // they are disabled since the last one, or since the queue has begun
+        // else they are disabled since the last one, or since the queue has begun
+        if is_for_another || !matches!(self.told, Some((_, false, _))) {
+            // [Wishes] or [OmitsWish]; with nobody asleep [Silences]
+            let told = self.tell(is_for_another, |q| server.set_notification(q, is_for_another));
+            // [ProceedsBusy] if no chain is left, or a thread is woken already. Else [Signals], and
+            // then [ProceedsBusy]. With nobody asleep [Unlocks].
+            let is_due = is_due && is_for_another && !wakes;
+            wakes |= is_due && (told.is_err() || self.has_more(server));
         }
-        // [Wishes] or [OmitsWish]; with nobody asleep [Silences]
-        let told =
-            self.tell(is_for_another, |queued| server.set_notification(queued, is_for_another));
-        // [ProceedsBusy] if no chain is left, or a thread is woken already. Else [Signals], and
-        // then [ProceedsBusy]. With nobody asleep [Unlocks].
-        let is_due = is_for_another && !self.is_woken && !comes;
-        let wakes = is_due && (told.is_err() || self.has_more(server));
         self.is_woken |= wakes;
         wakes
     }

@@ -1,4 +1,5 @@
 //! Threads over a ring that is two numbers, with an IOMMU and calls that end when the test says so.
+mod answers;
 mod chance;
 mod events;
 

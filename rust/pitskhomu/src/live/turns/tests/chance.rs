@@ -176,8 +176,9 @@ impl<'l> Thread<'l> {
     /// A call begins: who sleeps is woken for the next chain, and nobody in vain.
     fn looks_around(&self, world: &mut Locked<World>) {
         if self.has_woken() {
-            assert!(world.has_chain() || world.has_failed, "a thread is woken in vain");
-            let has_room = world.idle > 0 || self.is_undoing;
+            let is_due = world.has_chain() || world.answered > 0 || world.has_failed;
+            assert!(is_due, "a thread is woken in vain");
+            let has_room = world.idle > 0 || self.is_undoing || world.answered > 0;
             assert!(world.sleeping > 0 && has_room, "nobody can be woken");
             assert!(!world.is_handed, "two threads are woken");
             (world.is_handed, world.is_pending) = (true, true);
@@ -186,6 +187,8 @@ impl<'l> Thread<'l> {
         let others = world.sleeping > 0 && world.idle > 0;
         let is_heard = world.is_pending || (world.would_notify() && !world.has_chain());
         assert!(!others || is_heard, "nobody serves the next chain: {world:?}");
+        let is_left = world.sleeping > 0 && world.answered > 0;
+        assert!(!is_left || world.is_pending, "nobody takes up an answer: {world:?}");
         let is_silent = world.queue.has_event_index() || !world.is_enabled;
         assert!(world.sleeping > 0 || is_silent || world.has_failed, "it notifies in vain");
         world.has_failed = false;
@@ -214,6 +217,10 @@ impl Server<World> for Thread<'_> {
         world.idle += usize::from(std::mem::replace(&mut self.has_worker, true));
         (world.answered, world.waiting) = (world.answered - 1, world.waiting - 1);
         true
+    }
+
+    fn has_answered(&mut self, world: &World) -> bool {
+        world.answered > 0
     }
 
     fn pop(&mut self, world: &mut World) -> Result<Popped, Status> {
