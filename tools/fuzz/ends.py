@@ -1,6 +1,6 @@
 """How a script is read, and how it ends, where that hangs on streams: it comes in pieces through
 a pipe, can't be read, or its output can't be written; or the program has an argument
-(docs/SCRIPT.md)."""
+(vectors/SCRIPT.md)."""
 
 import re
 import subprocess

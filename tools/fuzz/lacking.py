@@ -1,5 +1,5 @@
 """Plays a script on the script program with one of its requests for memory refused: it says so,
-changes nothing by what lacks memory, and goes on (docs/SCRIPT.md)."""
+changes nothing by what lacks memory, and goes on (vectors/SCRIPT.md)."""
 
 import os
 import shutil

@@ -1,7 +1,7 @@
 """The plain machine: what a script prints, told by single addresses and whole lists. It shares
 nothing with the program. It also tells at which command the handle ends, which lacks a few, the
 driver, which lacks one, and the program, which hasn't the commands that only the handle has
-(docs/SCRIPT.md, vectors/README.md)."""
+(vectors/SCRIPT.md, vectors/README.md)."""
 
 import re
 from collections import Counter

@@ -1,6 +1,6 @@
 """Scripts whose last line is no command: one word of it is wrong, missing or too much."""
 
-# A word of each kind that is right, and near ones that are wrong (docs/SCRIPT.md, "Lines").
+# A word of each kind that is right, and near ones that are wrong (vectors/SCRIPT.md, "Lines").
 RIGHT = {"m": b"0", "s": b"4", "h": b"00", "p": b"rw", "o": b"on"}
 NUMBERS = [b"1a", b"a", b"1:", b"/1", b"0x", b"0x1g", b"0xG1", b"0x`", b"0x1@", b"0x:", b"0x1/",
     b"0X1", b"+1", b"-1", b"1_0", b"", b"0x0x1", b"\xd9\xa1", b"18446744073709551616",

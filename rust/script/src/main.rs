@@ -1,4 +1,4 @@
-//! Plays a script (docs/SCRIPT.md) on the handle: on the C library, through the crate `pitskhomu`.
+//! Plays a script (vectors/SCRIPT.md) on the handle: on the C library, by the crate `pitskhomu`.
 //! It prints the same lines as the script program, which runs the other device (`fs_device`).
 //! That page lists the few commands that the handle lacks. There the script ends with status 4.
 //!
