@@ -343,7 +343,7 @@ struct pk_pop {
 /* Pops the next available chain, by several calls: the first has `loaded_len` 0, and each after
  * PK_LOAD, at most 2 * size + 6, the bytes. PK_DONE: the chain is in flight. PK_IDLE, PK_MISS and
  * errors 1 to 8: the handle is free. PK_MISS leaves the queue as it was. Other errors leave the pop
- * under way; pk_drop ends it.
+ * under way: end it by pk_drop.
  * Two loads can be saved. For the first, the available index, you may pass the value that was
  * loaded last for this queue, by any thread, over the same memory and since the queue's reset, if
  * it isn't `next_avail`. Keep it with the queue, under its lock: an older value, such as a thread's
@@ -362,10 +362,10 @@ struct pk_load_ahead { uintptr_t at; size_t len; };
  * other's. It is as if pk_pop were called without bytes, and then with each load. A load is taken
  * only if its address and length are those that pk_pop would return next. At the first other one,
  * at the end of the list or of the bytes, at a part of an entry that lies in two regions or
- * mappings, or without room for a load's descriptors, the result is PK_LOAD: go on by pk_pop. So
- * any addresses and lengths are allowed, and a wrong one costs a call. Older bytes do what they do
- * with pk_pop: an older available index stops the queue. The list may have any length. pk_pop_ring
- * makes the loads, too: five at most.
+ * mappings, or without room for a load's descriptors, the result is PK_LOAD: continue with pk_pop.
+ * So any addresses and lengths are allowed, and a wrong one costs a call. Older bytes do what they
+ * do with pk_pop: an older available index stops the queue. The list may have any length.
+ * pk_pop_ring makes the loads, too: five at most.
  * Errors: the usual; PK_WRONG_ORDER (a pop is under way, or the chain in flight);
  * PK_CHAIN_IN_FLIGHT; 1 to 8, PK_NOT_MAPPED. */
 uint32_t pk_pop_ahead(struct pk_chain *chain, struct pk_queue *queue,
