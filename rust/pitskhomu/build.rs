@@ -6,6 +6,8 @@
 //! 3. the newer of a clone's two: `../../out/proved/libpitskhomu.a`, and
 //!    `../../out/unproved/libpitskhomu.a`, which isn't proved;
 //! 4. the one in the folder `libdir` of pkg-config's `pitskhomu`.
+//!
+//! An archive whose version of pitskhomu.h doesn't have all that the crate calls is refused.
 use std::env;
 use std::fs;
 use std::path::{Path, PathBuf};
@@ -14,6 +16,9 @@ use std::process::{self, Command};
 const NAME: &str = "libpitskhomu.a";
 /// What is in an archive that isn't proved, in the text of `pk_build`.
 const UNPROVED: &[u8] = b", NOT PROVED";
+/// What is before the version in an archive (tools/pk_build.c), and in the crate.
+const VERSION: &[u8] = b"PK_VERSION 0x";
+const NEEDED: &[u8] = b"\npub const VERSION: u32 = 0x";
 
 fn main() {
     let archive = match env::var_os("PITSKHOMU_ARCHIVE").map(PathBuf::from) {
@@ -75,17 +80,46 @@ fn of_pkg_config() -> Option<PathBuf> {
     Some(Path::new(folder.trim()).join(NAME)).filter(|path| path.is_file())
 }
 
+/// Where a text ends in a file.
+fn end_of(text: &[u8], file: &[u8]) -> Option<usize> {
+    file.windows(text.len()).position(|part| part == text).map(|at| at + text.len())
+}
+
+/// The hexadecimal number after a text in a file.
+fn number_after(text: &[u8], file: &[u8]) -> Option<u32> {
+    let rest = &file[end_of(text, file)?..];
+    let digits = rest.iter().take_while(|byte| byte.is_ascii_hexdigit());
+    u32::from_str_radix(&digits.map(|&digit| char::from(digit)).collect::<String>(), 16).ok()
+}
+
+/// Refuses an archive that lacks what the crate calls (`pk_is_compatible`).
+fn compare_versions(archive: &Path, bytes: &[u8]) {
+    let needed = number_after(NEEDED, include_bytes!("src/sys.rs")).expect("sys.rs has it");
+    let version = number_after(VERSION, bytes).unwrap_or(needed);
+    let (major, minor) = (needed >> 16, needed & 0xffff);
+    if version >> 16 != major || version < needed {
+        refuse(&format!(
+            "{} has version {}.{} of the C interface, and this crate needs {major}.{minor} or a \
+             later {major}.N: take both from one release",
+            archive.display(),
+            version >> 16,
+            version & 0xffff
+        ));
+    }
+}
+
 /// Links the archive, and warns if it isn't proved.
 fn link(archive: &Path) {
     let bytes = fs::read(archive)
         .unwrap_or_else(|error| refuse(&format!("{} can't be read: {error}", archive.display())));
-    let has = |text: &[u8]| bytes.windows(text.len()).any(|part| part == text);
+    let has = |text: &[u8]| end_of(text, &bytes).is_some();
     if !has(b"pk_build") {
         refuse(&format!(
             "{} isn't a libpitskhomu.a: `tools/library take` makes one of the toolchain's archive",
             archive.display()
         ));
     }
+    compare_versions(archive, &bytes);
     println!("cargo:rerun-if-changed={}", archive.display());
     if has(UNPROVED) {
         println!("cargo:warning=the library was built without proofs: {}", archive.display());
