@@ -13,6 +13,9 @@ use vm_memory::{
 /// All numbers of a region are multiples of this.
 const PAGE: u64 = 4096;
 
+/// `PROT_READ | PROT_WRITE` of sys/mman.h.
+const READ_WRITE: i32 = 3;
+
 /// A byte's number has this many bits for the offset in its region. The bits above are the region's
 /// place in the list. So only the library looks an address up.
 const OFFSET_BITS: u32 = usize::BITS - 8;
@@ -77,14 +80,16 @@ impl<B: Bitmap + 'static> MappedMemory<B> {
     ///
     /// # Errors
     /// `BadArgument`: there are more than `Device::MAX_REGIONS`, one isn't of whole pages of 4096
-    /// bytes, or one is longer than 2^56 bytes.
+    /// bytes, one is longer than 2^56 bytes, or one isn't mapped for reads and writes: a store of
+    /// the worker's would end the process.
     pub fn new(memory: GuestMemoryMmap<B>) -> Result<MappedMemory<B>, Status> {
         let stretch = |region: &GuestRegionMmap<B>| {
             let (guest, len) = (region.start_addr().raw_value(), region.len());
             let is_whole = (guest | len | region.as_ptr() as u64) % PAGE == 0 && len > 0;
             let fits = guest.checked_add(len).is_some() && len <= 1 << OFFSET_BITS;
-            let host = region.as_ptr() as usize;
-            (is_whole && fits).then_some(Stretch { guest, len, host }).ok_or(Status::BadArgument)
+            let is_written = region.prot() & READ_WRITE == READ_WRITE;
+            let stretch = Stretch { guest, len, host: region.as_ptr() as usize };
+            (is_whole && fits && is_written).then_some(stretch).ok_or(Status::BadArgument)
         };
         let stretches = regions(&memory).map(stretch).collect::<Result<Vec<_>, _>>()?;
         if stretches.len() > Device::MAX_REGIONS {
@@ -147,8 +152,8 @@ impl<B: Bitmap + 'static> GuestMemory for MappedMemory<B> {
         let (stretch, offset) = self.find(at, len)?;
         let host = stretch.host as *mut u8;
         // SAFETY: the bytes are in a region that `self.memory` keeps mapped as long as it lives, so
-        // as long as the slice. vm-memory makes no reference to them, and returns none but to
-        // atomic numbers.
+        // as long as the slice, and that `new` found to be mapped for reads and writes. vm-memory
+        // makes no reference to them, and returns none but to atomic numbers.
         Some(unsafe { GuestSlice::new(host.add(offset), len) })
     }
 
@@ -177,6 +182,7 @@ impl<B: Bitmap + 'static> GuestMemory for MappedMemory<B> {
 mod tests {
     use super::*;
     use vm_memory::bitmap::{AtomicBitmap, WithBitmapSlice};
+    use vm_memory::mmap::MmapRegionBuilder;
     use vm_memory::{Bytes, GuestAddress};
 
     const HIGH: u64 = 1 << 32;
@@ -209,6 +215,18 @@ mod tests {
         }
         let region = |guest, host| Region { guest, len: 0x2000, host };
         assert_eq!(memory.regions(), [region(0x4000, 0), region(HIGH, SECOND)]);
+    }
+
+    /// The byte after a region's last is the next region's first, if there is one.
+    #[test]
+    fn a_region_ends_where_the_next_begins() {
+        let memory = side_by_side();
+        memory.memory().write_slice(b"next", GuestAddress(0x6000)).unwrap();
+        let mut bytes = [0; 4];
+        memory.guest_slice(0x6000, 4).unwrap().copy_to(&mut bytes);
+        assert_eq!(&bytes, b"next");
+        assert_eq!(memory.guest_slice(0x5fff, 1).unwrap().len(), 1);
+        assert!(memory.guest_slice(0x5fff, 2).is_none() && memory.guest_slice(0x8000, 1).is_none());
     }
 
     #[test]
@@ -264,15 +282,15 @@ mod tests {
             .collect()
     }
 
-    /// Regions side by side, as hotplugged memory has them: a range ends with its descriptor, not
-    /// with a region.
+    /// Regions side by side, as hotplugged memory has them.
+    fn side_by_side() -> MappedMemory<AtomicBitmap> {
+        let ranges = [0x4000, 0x6000].map(|at| (GuestAddress(at), 0x2000));
+        MappedMemory::new(GuestMemoryMmap::from_ranges(&ranges).unwrap()).unwrap()
+    }
+
+    /// A range ends with its descriptor, not with a region.
     #[test]
     fn a_range_over_two_regions_is_marked_in_both() {
-        let side_by_side = || {
-            let ranges = [0x4000, 0x6000].map(|at| (GuestAddress(at), 0x2000));
-            MappedMemory::<AtomicBitmap>::new(GuestMemoryMmap::from_ranges(&ranges).unwrap())
-                .unwrap()
-        };
         let places = [
             (0x5000, 0x2000, [false, true, true, false]),
             (0x4000, 0x4000, [true; 4]),
@@ -322,5 +340,22 @@ mod tests {
             (0..=Device::MAX_REGIONS as u64).map(|k| (GuestAddress(k << 13), 0x1000)).collect();
         let many = GuestMemoryMmap::<()>::from_ranges(&ranges).unwrap();
         assert_eq!(MappedMemory::new(many).err(), Some(Status::BadArgument));
+    }
+
+    /// Safe code maps memory that can't be written. A store there would be a SIGSEGV.
+    #[test]
+    fn memory_that_cannot_be_written_is_refused() {
+        const PRIVATE_ANONYMOUS: i32 = 0x22; // `MAP_PRIVATE | MAP_ANONYMOUS`
+        for (protection, is_taken) in [(0, false), (1, false), (2, false), (3, true)] {
+            let region = MmapRegionBuilder::<()>::new(0x2000)
+                .with_mmap_prot(protection)
+                .with_mmap_flags(PRIVATE_ANONYMOUS)
+                .build()
+                .unwrap();
+            let region = GuestRegionMmap::new(region, GuestAddress(0x4000)).unwrap();
+            let memory = GuestMemoryMmap::from_regions(vec![region]).unwrap();
+            let refusal = (!is_taken).then_some(Status::BadArgument);
+            assert_eq!(MappedMemory::new(memory).err(), refusal, "{protection}");
+        }
     }
 }
