@@ -4,8 +4,10 @@ file beside it, a second daemon, --fd, signals, and --syslog where nothing else 
 at the first that isn't so."""
 import json
 import os
+import resource
 import signal
 import socket
+import struct
 import subprocess
 import sys
 import time
@@ -13,6 +15,7 @@ import time
 DAEMON, FOLDER = sys.argv[1:]
 PATH, SHARED = FOLDER + "/socket", FOLDER + "/shared"
 SYSLOG = "/dev/log"
+GET_FEATURES = 1
 
 
 def start(*words, **more):
@@ -26,14 +29,39 @@ def ended(daemon):
     return daemon.returncode, told
 
 
-def meet(path):
-    """Connects as soon as the socket is there, and leaves."""
+def met(path):
+    """A connection, as soon as the socket is there."""
     for _ in range(400):
         if os.path.exists(path):
             break
         time.sleep(0.05)
-    with socket.socket(socket.AF_UNIX) as front_end:
-        front_end.connect(path)
+    front_end = socket.socket(socket.AF_UNIX)
+    front_end.connect(path)
+    return front_end
+
+
+def meet(path):
+    """Connects as soon as the socket is there, and leaves."""
+    met(path).close()
+
+
+def table_size(*words):
+    """How many descriptors the kernel's table of the daemon holds, once the daemon answers its
+    front-end, and before it opens a file of the guest's."""
+    if os.path.exists(PATH):
+        os.unlink(PATH)
+    daemon = start("--socket-path", PATH, *words)
+    front_end = met(PATH)
+    front_end.sendall(struct.pack("III", GET_FEATURES, 1, 0))
+    answered = front_end.recv(20)
+    number = daemon.pid
+    with open(f"/proc/{number}/task/{number}/children") as children:
+        number = int(children.read().split()[0]) if "--sandbox=namespace" in words else number
+    with open(f"/proc/{number}/status") as told:
+        size = next(int(line.split()[1]) for line in told if line.startswith("FDSize:"))
+    front_end.close()
+    check(f"it answers and ends {words}", ended(daemon)[0] == 0 and len(answered) == 20)
+    return size
 
 
 def check(what, holds):
@@ -82,6 +110,14 @@ for number in (signal.SIGTERM, signal.SIGINT, signal.SIGHUP):
         time.sleep(0.05)
     daemon.send_signal(number)
     check(f"it ends by signal {number}", ended(daemon)[0] == 0)
+
+# No request waits for a larger table: it has 2 MiB of pointers, or as many as the limit allows.
+limit = resource.getrlimit(resource.RLIMIT_NOFILE)[1]
+for sandbox in ("namespace", "chroot", "none"):
+    size = table_size(f"--sandbox={sandbox}")
+    check(f"a wide table in the sandbox {sandbox}: {size}", min(limit, 1 << 18) <= size)
+size = table_size("--sandbox=namespace", "--rlimit-nofile=5000")
+check(f"the table is as wide as the limit: {size}", 5000 <= size <= 8192)
 
 with listener(FOLDER + "/handed", socket.SOCK_STREAM) as handed:
     handed.listen(1)

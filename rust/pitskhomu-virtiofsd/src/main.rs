@@ -2,6 +2,7 @@
 //! descriptors, the socket and a file in memory for migrations before it enters the sandbox.
 mod adapter;
 mod capabilities;
+mod fd_table;
 mod front_end;
 mod in_flight;
 mod iommu;

@@ -1,5 +1,6 @@
 //! The start of the daemon, from its options to a served directory.
 use crate::capabilities;
+use crate::fd_table;
 use crate::front_end::FrontEnd;
 use crate::iommu;
 use crate::logger::{self, Logger};
@@ -12,7 +13,7 @@ use log::{debug, error, info, warn, Level};
 use std::error::Error;
 use std::fs::File;
 use std::io;
-use std::os::fd::AsRawFd;
+use std::os::fd::{AsFd, AsRawFd};
 use std::path::Path;
 use std::sync::{Arc, Mutex, PoisonError};
 use std::thread;
@@ -203,6 +204,7 @@ pub fn run(mut options: Options, logger: &Logger) -> Result<(), Failure> {
     let listener = sandbox
         .enter(listener)
         .map_err(|e| format!("Error entering sandbox: {}", sandbox_error(e)))?;
+    fd_table::widen(scratch.as_fd()); // after the sandbox's fork, and before other threads
 
     let proc_self_fd = sandbox.get_proc_self_fd();
     let descriptors =
