@@ -16,6 +16,26 @@ take_guest() {
     }
     make_image
     make_files
+    take_accelerator
+}
+
+# ACCEL=auto is KVM if a guest's kernel comes up with it within 20 seconds, else TCG: a machine in a
+# cloud may have a /dev/kvm on which no kernel starts.
+take_accelerator() {
+    [ "${ACCEL:-auto}" = auto ] || return 0
+    ACCEL=tcg
+    if [ -w /dev/kvm ]; then
+        rm -f "$work/probe"
+        (timeout 20 bash -c "$(declare -f other); other \"\$@\"" qemu /usr/bin/qemu-system-x86_64 \
+            -L "$root/usr/share/qemu" -L "$root/usr/share/seabios" -M pc,accel=kvm -cpu max -m 256M \
+            -nodefaults -no-user-config -nic none -display none -no-reboot \
+            -serial "file:$work/probe" -kernel "$work/vmlinuz" \
+            -append 'console=ttyS0 panic=-1') > "$work/probe.qemu" 2>&1 || true
+        # Without a root the kernel panics, and so it came up.
+        ! grep -q 'Kernel panic' "$work/probe" 2> "$work/none" || ACCEL=kvm
+    fi
+    export ACCEL
+    echo "the guests' accelerator: $ACCEL"
 }
 
 # virtiofsd alone.
