@@ -132,3 +132,11 @@ alone() {
     try state lost
     grep -q refused "$work/state-lost" || failure "lost: a file that no path leads to is taken"
 }
+
+# What an operator does.
+operate() {
+    take_virtiofsd
+    make_other
+    timeout 600 python3 "$here/pitskhomu-virtiofsd/tests/operate" "$DAEMON" \
+        "$work/other" /usr/libexec/virtiofsd || failure "operate"
+}

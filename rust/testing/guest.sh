@@ -361,10 +361,18 @@ all_are() {
     echo "$name: done, $count readings"
 }
 
+# Makes a script that runs a program of the other Debian.
+make_other() {
+    {
+        printf '#!/usr/bin/env bash\nroot=%q\n' "$root"
+        printf '%s\nother "$@"\n' "$(declare -f other)"
+    } > "$work/other"
+    chmod 755 "$work/other"
+}
+
 # Each option of virtiofsd's is served, or refused by its name; of wrong ones both say the same.
 options() {
-    printf '#!/usr/bin/env bash\n%s\nother "$@"\n' "$(declare -f other)" > "$work/other"
-    chmod 755 "$work/other"
+    make_other
     python3 "$here/testing/options.py" "$DAEMON" "$work/other" /usr/libexec/virtiofsd ||
         failure "options"
 }

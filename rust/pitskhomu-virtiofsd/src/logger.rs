@@ -245,9 +245,10 @@ pub fn write_at_the_end(bytes: &[u8]) {
 mod tests {
     use super::*;
     use crate::notifier::{tests::full_pipe, Notifier};
+    use crate::options::Seccomp;
+    use crate::system_calls;
     use std::iter;
     use std::sync::mpsc::{channel, Sender};
-    use virtiofsd::seccomp::{enable_seccomp, SeccompAction};
 
     /// A writer that waits for a permit at each line.
     struct Slow {
@@ -271,7 +272,7 @@ mod tests {
     fn the_filter_allows_a_look_for_room() {
         let (_reader, writer) = full_pipe(0);
         let looked = thread::spawn(move || {
-            enable_seccomp(SeccompAction::Kill, false).expect("a filter");
+            system_calls::limit(Seccomp::Kill, false).expect("a filter");
             let notifier = Notifier::new(writer).expect("a notifier");
             (errors_have_room(), notifier.notify().is_ok())
         });

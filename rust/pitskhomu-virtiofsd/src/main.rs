@@ -18,6 +18,7 @@ mod serve;
 mod socket;
 mod start;
 mod state;
+mod system_calls;
 
 use clap::Parser;
 use logger::Logger;

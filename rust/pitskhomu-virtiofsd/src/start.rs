@@ -9,6 +9,7 @@ use crate::options::Options;
 use crate::serve::{Core, Parts, QueueWorker, ServedFs};
 use crate::socket::Socket;
 use crate::state;
+use crate::system_calls;
 use log::{debug, error, info, warn, Level};
 use std::error::Error;
 use std::fs::File;
@@ -23,7 +24,6 @@ use virtiofsd::limits::setup_rlimit_nofile;
 use virtiofsd::passthrough::read_only::PassthroughFsRo;
 use virtiofsd::passthrough::{CachePolicy, Config, PassthroughFs};
 use virtiofsd::sandbox::{self, Sandbox};
-use virtiofsd::seccomp::enable_seccomp;
 
 /// An error before the directory is served.
 type Failure = Box<dyn Error>;
@@ -276,9 +276,7 @@ impl Serving {
         })?);
         logger.keep_errors()?;
         capabilities::give_up(&self.capabilities)?;
-        if let Some(action) = self.seccomp.action() {
-            enable_seccomp(action, self.syslog)?; // new threads inherit it
-        }
+        system_calls::limit(self.seccomp, self.syslog)?; // new threads inherit it
         logger.start()?;
         core.start()?;
         for (index, ring) in core.rings.iter().enumerate() {

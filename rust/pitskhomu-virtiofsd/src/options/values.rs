@@ -2,7 +2,6 @@
 use std::str::FromStr;
 use virtiofsd::passthrough::xattrmap::XattrMap;
 use virtiofsd::passthrough::InodeFileHandlesMode;
-use virtiofsd::seccomp::SeccompAction;
 use virtiofsd::vhost_user::MAX_TAG_LEN;
 
 /// Whether inodes are held by file handles or by open descriptors.
@@ -63,18 +62,6 @@ impl FromStr for Seccomp {
             "log" => Ok(Seccomp::Log),
             "trap" => Ok(Seccomp::Trap),
             _ => Err("Matching variant not found"),
-        }
-    }
-}
-
-impl Seccomp {
-    /// The filter's action, if there is a filter.
-    pub fn action(self) -> Option<SeccompAction> {
-        match self {
-            Seccomp::None => None,
-            Seccomp::Kill => Some(SeccompAction::Kill),
-            Seccomp::Log => Some(SeccompAction::Log),
-            Seccomp::Trap => Some(SeccompAction::Trap),
         }
     }
 }

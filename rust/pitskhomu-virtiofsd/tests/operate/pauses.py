@@ -1,0 +1,206 @@
+"""Stops: SIGSTOP and SIGCONT, the freezer of cgroup v2, and a debugger that attaches and detaches.
+Each at rest, under load, while the host holds a call, and while a message waits for such a call; in
+each sandbox."""
+import ctypes
+import fcntl
+import os
+import signal
+import struct
+import tempfile
+import threading
+import time
+from functools import partial
+
+from daemon import Daemon
+from front import GETATTR, OPEN, QUEUE, ROOT, Lost
+from rows import Row, is_root
+
+GET_VRING_BASE = 11
+SANDBOXES = ("namespace", "chroot", "none")
+A_WHILE = 0.06
+TIMES = 3
+PTRACE_ATTACH, PTRACE_DETACH, WALL = 16, 17, 0x40000000
+LIBC = ctypes.CDLL(None, use_errno=True)
+LIBC.ptrace.argtypes = [ctypes.c_long, ctypes.c_long, ctypes.c_void_p, ctypes.c_void_p]
+
+
+def wait_until(what, holds):
+    end = time.monotonic() + 10
+    while not holds():
+        if time.monotonic() > end:
+            raise Lost(what)
+        time.sleep(0.002)
+
+
+def stop(daemon):
+    """SIGSTOP and SIGCONT to each process, as `kill -STOP` or a shell's ^Z has it."""
+    processes = daemon.processes()
+    for pid in processes:
+        os.kill(pid, signal.SIGSTOP)
+    time.sleep(A_WHILE)
+    for pid in processes:
+        os.kill(pid, signal.SIGCONT)
+
+
+class Cgroup:
+    """A new group of cgroup v2 with the daemon, which the freezer takes."""
+
+    def __init__(self, daemon):
+        self.top = unified()
+        self.path = tempfile.mkdtemp(prefix="operate-", dir=self.top)
+        self.move(daemon.processes(), self.path)
+
+    @staticmethod
+    def move(processes, path):
+        for pid in processes:
+            with open(path + "/cgroup.procs", "w", encoding="utf-8") as file:
+                file.write(str(pid))
+
+    def set(self, is_frozen):
+        with open(self.path + "/cgroup.freeze", "w", encoding="utf-8") as file:
+            file.write(str(is_frozen))
+        wait_until(f"the freezer doesn't come to {is_frozen}", lambda: self.is_frozen(is_frozen))
+
+    def is_frozen(self, wanted):
+        with open(self.path + "/cgroup.events", encoding="utf-8") as file:
+            return f"frozen {wanted}\n" in file.read()
+
+    def end(self, daemon):
+        self.move(daemon.processes(), self.top)
+        os.rmdir(self.path)
+
+
+def unified():
+    """Where cgroup v2 is mounted, if groups can be made there."""
+    with open("/proc/mounts", encoding="utf-8") as file:
+        places = [line.split()[1] for line in file if line.split()[2] == "cgroup2"]
+    return next((place for place in places if os.access(place, os.W_OK)), None)
+
+
+def freeze(daemon):
+    """As `systemctl freeze` and `podman pause` do."""
+    group = Cgroup(daemon)
+    try:
+        group.set(1)
+        time.sleep(A_WHILE)
+        group.set(0)
+    finally:
+        group.end(daemon)
+
+
+def ptrace(request, thread):
+    if LIBC.ptrace(request, thread, None, None) < 0:
+        raise OSError(ctypes.get_errno(), f"ptrace {request} of {thread}")
+
+
+def trace(daemon):
+    """As `gdb -p` does, which attaches to each thread and detaches."""
+    threads = daemon.threads()
+    for thread in threads:
+        ptrace(PTRACE_ATTACH, thread)
+        os.waitpid(thread, WALL)
+    time.sleep(A_WHILE)
+    for thread in threads:
+        ptrace(PTRACE_DETACH, thread)
+
+
+class Load:
+    """Two threads that ask one request after another, each of which must be answered."""
+
+    def __init__(self, front):
+        self.front, self.is_over, self.why = front, False, None
+        self.threads = [threading.Thread(target=self.run, args=[slot]) for slot in (4, 5)]
+        for thread in self.threads:
+            thread.start()
+
+    def run(self, slot):
+        try:
+            while not self.is_over:
+                self.front.ask(GETATTR, ROOT, bytes(16), slot)
+        except (Lost, OSError, AssertionError) as why:
+            self.why = why
+
+    def end(self):
+        self.is_over = True
+        for thread in self.threads:
+            thread.join()
+        if self.why:
+            raise self.why
+
+
+class Held:
+    """An OPEN that the host holds until the lease of its file ends."""
+
+    def __init__(self, daemon, front):
+        self.front = front
+        node = front.look_up("file")
+        self.lease = os.open(daemon.shared + "/file", os.O_RDWR)
+        fcntl.fcntl(self.lease, fcntl.F_SETLEASE, fcntl.F_WRLCK)
+        self.unique = front.send(6, OPEN, node, struct.pack("II", os.O_RDONLY, 0))
+        wait_until("nothing is held",
+            lambda: fcntl.fcntl(self.lease, fcntl.F_GETLEASE) != fcntl.F_WRLCK)
+
+    def end(self):
+        if self.front.answered(6, self.unique):
+            raise Lost("the call wasn't held")
+        os.close(self.lease)
+        error = self.front.wait(6, self.unique)[0]
+        if error:
+            raise Lost(f"the held call fails: {os.strerror(error)}")
+
+
+class Message:
+    """GET_VRING_BASE is sent while the host holds a call, and answered later."""
+
+    def __init__(self, daemon, front):
+        self.held, self.front = Held(daemon, front), front
+        front.message(GET_VRING_BASE, struct.pack("II", QUEUE, 0), is_acknowledged=False)
+
+    def end(self):
+        os.close(self.held.lease) # virtiofsd answers no message before
+        if len(self.front.reply()) != 8:
+            raise Lost("GET_VRING_BASE isn't answered")
+
+
+STATES = {
+    "at rest": lambda daemon, front: None,
+    "under load": lambda daemon, front: Load(front),
+    "with a held call": Held,
+    "while a message waits": Message,
+}
+
+
+def paused(daemon, pause, state):
+    """Pauses the daemon a few times in one state. The ring serves again after it."""
+    front = daemon.front().begin()
+    under_way = STATES[state](daemon, front)
+    for _ in range(1 if state == "while a message waits" else TIMES):
+        pause(daemon)
+    if under_way:
+        under_way.end()
+    if state != "while a message waits" and front.attributes():
+        raise Lost("GETATTR fails")
+    front.leave()
+    status = daemon.ended()
+    if status != 0:
+        raise Lost(f"its status is {status}")
+
+
+def pauses(program, pause, state):
+    if pause is freeze and not unified():
+        return "skipped", "no group of cgroup v2 can be made here"
+    for sandbox in SANDBOXES if is_root() else ("namespace", "none"):
+        options = f"--sandbox={sandbox}", "--thread-pool-size=4", "--log-level=warn"
+        with Daemon(program, *options) as daemon:
+            try:
+                paused(daemon, pause, state)
+            except (Lost, OSError, AssertionError) as why:
+                ended = daemon.ended(1)
+                return "lost", f"sandbox {sandbox}: {why}; status {ended}: {daemon.said()}"
+    return "serves", ""
+
+
+def rows():
+    kinds = {"SIGSTOP and SIGCONT": stop, "the freezer of cgroup v2": freeze, "a debugger": trace}
+    return [Row(f"{name} {state}", partial(pauses, pause=pause, state=state))
+        for name, pause in kinds.items() for state in STATES]
