@@ -1,3 +1,0 @@
-pub mod ContentsLemmas
-pub mod TableLemmas
-pub mod WholeReads

@@ -1,4 +1,0 @@
-pub mod Directory
-pub mod Files
-pub mod FilesProof
-pub mod OwnedTable

@@ -1,4 +1,0 @@
-pub mod EntriesLemmas
-pub mod FilesLemmas
-pub mod ListingLemmas
-pub mod WriteLemmas
