@@ -15,8 +15,6 @@ pub mod MarksPreserved
 pub mod SincePreserved
 pub mod Splitting
 pub mod WholePasses
-pub mod RoundPages
-pub mod RoundReceipts
 pub mod RunLemmas
 pub mod Marking
 pub mod Since

@@ -9,7 +9,6 @@ pub mod Shared
 pub mod JournalPages
 pub mod Marks
 pub mod Refusing
-pub mod Rounds
 pub mod Pages
 pub mod Runs
 pub mod Portion
