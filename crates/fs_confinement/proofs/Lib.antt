@@ -2,6 +2,4 @@ pub mod HostLemmas
 pub mod OfferLemmas
 pub mod StepLemmas
 pub mod RunLemmas
-pub mod HiddenLemmas
-pub mod AnsweredLemmas
 pub mod ByLoadsLemmas

@@ -21,7 +21,6 @@ use Rattle.plain_machine.specs.Examples.{with_descriptors, Nothing, may, device,
 use Rattle.plain_machine.specs.Examples.{after_reply, one_step}
 use Rattle.fs_confinement.specs.ReadSet.{is_among, offer_reads, flag_reads, places_for, nothing, kick_touches}
 use Rattle.fs_confinement.specs.ReadSet.{run_touches}
-use Rattle.fs_confinement.specs.Hidden.{hides, leaves_hidden}
 
 -- ---- the reads of a step before its calls; the queue's table is at 0, its rings are at 0x100 and
 -- 0x200
@@ -252,13 +251,3 @@ lacking_touches : kick_touches may (device with_one_request queue) 0 1 []
     ≡ record { read = map at all_read; written = [] }
 unfolding kick_touches offer place addresses stored_all path found
 lacking_touches = refl
-
--- ---- blocks that no region shows
-
-second_hidden : map (λ block. hides block small.memory.layout) (0 ∷ 1 ∷ []) ≡ false ∷ true ∷ []
-second_hidden = refl
-
-shown_by_region : map (leaves_hidden 1)
-    (run.InsertRegion 64 0 ∷ run.InsertRegion 64 1 ∷ run.SetLayout (record { start = 0; size = 2; block = 1 }
-    ∷ []) ∷ run.Image ∷ run.Kick 0 9 ∷ []) ≡ true ∷ false ∷ false ∷ false ∷ true ∷ []
-shown_by_region = refl
