@@ -27,8 +27,8 @@ take_accelerator() {
     if [ -w /dev/kvm ]; then
         rm -f "$work/probe"
         (timeout 20 bash -c "$(declare -f other); other \"\$@\"" qemu /usr/bin/qemu-system-x86_64 \
-            -L "$root/usr/share/qemu" -L "$root/usr/share/seabios" -M pc,accel=kvm -cpu max -m 256M \
-            -nodefaults -no-user-config -nic none -display none -no-reboot \
+            -L "$root/usr/share/qemu" -L "$root/usr/share/seabios" -M pc,accel=kvm -cpu max \
+            -m 256M -nodefaults -no-user-config -nic none -display none -no-reboot \
             -serial "file:$work/probe" -kernel "$work/vmlinuz" \
             -append 'console=ttyS0 panic=-1') > "$work/probe.qemu" 2>&1 || true
         # Without a root the kernel panics, and so it came up.
