@@ -16,7 +16,7 @@ use std::process::{self, Command};
 const NAME: &str = "libpitskhomu.a";
 /// What is in an archive that isn't proved, in the text of `pk_build`.
 const UNPROVED: &[u8] = b", NOT PROVED";
-/// What is before the version in an archive (tools/pk_build.c), and in the crate.
+/// What is before the version in an archive (`tools/pk_build.c`), and in the crate.
 const VERSION: &[u8] = b"PK_VERSION 0x";
 const NEEDED: &[u8] = b"\npub const VERSION: u32 = 0x";
 

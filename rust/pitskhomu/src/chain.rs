@@ -117,6 +117,12 @@ impl Chain {
         Chain { handle, ticket: 0, progress: Progress::Free, kept: None }
     }
 
+    /// The ticket, for tests of a wrong one.
+    #[cfg(test)]
+    pub fn ticket_mut(&mut self) -> &mut u32 {
+        &mut self.ticket
+    }
+
     pub fn progress(&self) -> Progress {
         debug_assert_eq!(self.progress, self.state());
         self.progress

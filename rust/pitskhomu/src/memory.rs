@@ -1,7 +1,7 @@
 //! The guest's memory, by numbers. The library touches no memory: the worker asks the VMM for the
 //! bytes.
 use crate::slice::GuestSlice;
-use core::sync::atomic::{AtomicUsize, Ordering};
+use core::sync::atomic::{fence, AtomicUsize, Ordering};
 
 /// The guest's memory, addressed by the numbers of `Region::host`.
 ///
@@ -27,8 +27,9 @@ use core::sync::atomic::{AtomicUsize, Ordering};
 ///         if from.checked_add(len)? > self.len {
 ///             return None;
 ///         }
-///         // SAFETY: the bytes are mapped until `self` is dropped, and the guest alone has others'
-///         // references to them.
+///         // SAFETY: the bytes are mapped for reads and writes until `self` is dropped, and lie
+///         // in it. This process has no reference to them, and accesses them by `GuestSlice`s
+///         // alone.
 ///         Some(unsafe { GuestSlice::new(self.at.add(from), len) })
 ///     }
 /// }
@@ -47,7 +48,9 @@ pub trait GuestMemory {
     /// ring's 16-bit number in one step if its address is even, as it is in mapped pages.
     fn get_slice(&self, at: usize, len: usize) -> Option<GuestSlice<'_>>;
 
-    /// Whether the worker calls `mark`: true while a migration's log is on.
+    /// Whether the worker calls `mark`: true while a migration's log is on. The worker asks after
+    /// its stores and a full barrier. So who turns the log on, and reads the memory after a full
+    /// barrier, finds each store in the memory or in the log.
     fn is_logging(&self) -> bool {
         false
     }
@@ -92,6 +95,14 @@ pub(crate) fn store_u16(memory: &dyn GuestMemory, at: usize, number: u16) {
     }
 }
 
+/// A full barrier: a load after it happens once the guest, and other threads, can see each store
+/// before it.
+pub(crate) fn full_barrier() {
+    #[cfg(test)]
+    tests::BARRIERS.with(|count| count.set(count.get() + 1));
+    fence(Ordering::SeqCst);
+}
+
 /// A stretch of the guest's memory (struct `pk_region`). All three numbers are multiples of 4096.
 #[repr(C)]
 #[derive(Clone, Copy, Debug, Default, PartialEq, Eq)]
@@ -133,4 +144,12 @@ pub struct GuestRange {
     pub guest: u64,
     /// The length in bytes.
     pub len: u64,
+}
+
+#[cfg(test)]
+pub(crate) mod tests {
+    std::thread_local! {
+        /// How many full barriers this thread had.
+        pub(crate) static BARRIERS: core::cell::Cell<u32> = const { core::cell::Cell::new(0) };
+    }
 }

@@ -477,3 +477,6 @@ fn grow(buffer: &mut Vec<u8>, len: usize) -> Result<(), Status> {
     }
     Ok(())
 }
+
+#[cfg(test)]
+mod tests;

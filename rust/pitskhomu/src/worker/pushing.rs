@@ -96,12 +96,13 @@ impl Worker {
         memory::store_u32(memory, stores.len_at, stores.len);
         fence(Ordering::Release);
         memory::store_u16(memory, stores.index_at, stores.index);
+        // The driver's flags or `used_event` must be loaded after the driver can see the index, or
+        // a notification is lost. So must the log's flag: else a log that is turned on meanwhile
+        // misses a page.
+        memory::full_barrier();
         if memory.is_logging() {
             self.mark_written(memory, stores);
         }
-        // The driver's flags or `used_event` must be loaded after the driver can see the index, or
-        // a notification is lost.
-        fence(Ordering::SeqCst);
         self.chain.pushed(queue, memory::load_u16(memory, stores.seen_at))
     }
 
@@ -146,6 +147,8 @@ impl Worker {
             return Ok(false);
         }
         memory::store_u16(memory, store.at, store.value);
+        // The next load of the available index comes after the store, and so does the log's flag.
+        memory::full_barrier();
         if memory.is_logging() {
             let len = store.len.into();
             if is_lent {
@@ -154,7 +157,6 @@ impl Worker {
                 memory.mark(GuestRange { guest: queue.notification_address(), len });
             }
         }
-        fence(Ordering::SeqCst); // the next load of the available index comes after the store
         Ok(true)
     }
 
@@ -162,6 +164,7 @@ impl Worker {
     /// ([`GuestMemory::mark`]), such as a READ's data. `push` does so by itself. Call this before
     /// [`Worker::abandon`]: the guest gets no reply, but its memory has changed.
     pub fn mark_data(&mut self, memory: &dyn GuestMemory) {
+        memory::full_barrier(); // the data is stored before the log's flag is loaded
         if memory.is_logging() {
             self.mark_room(memory, self.counts.end());
         }
