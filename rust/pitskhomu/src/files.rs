@@ -4,6 +4,8 @@
 
 use crate::data::{at_most, ReadData, WriteData};
 use crate::memory::{GuestMemory, Window};
+use crate::slice::GuestSlice;
+use core::marker::PhantomData;
 use std::fs::File;
 use std::io::{self, ErrorKind};
 use std::os::raw::{c_int, c_void};
@@ -30,17 +32,18 @@ extern "C" {
 
 /// The bytes of windows, as a system call takes them. They end at the first window that the memory
 /// doesn't have.
-struct Pieces {
+struct Pieces<'m> {
     list: [Piece; WINDOWS],
     /// How many of the list they are.
     count: c_int,
     len: u64,
+    memory: PhantomData<GuestSlice<'m>>,
 }
 
-impl Pieces {
-    fn new(memory: &dyn GuestMemory, windows: &[Window]) -> Pieces {
+impl<'m> Pieces<'m> {
+    fn new(memory: &'m dyn GuestMemory, windows: &[Window]) -> Pieces<'m> {
         let none = Piece { at: core::ptr::null_mut(), len: 0 };
-        let mut found = Pieces { list: [none; WINDOWS], count: 0, len: 0 };
+        let mut found = Pieces { list: [none; WINDOWS], count: 0, len: 0, memory: PhantomData };
         for (window, piece) in windows.iter().zip(&mut found.list) {
             match memory.get_slice(window.at, window.len) {
                 Some(slice) if slice.len() == window.len => {
@@ -66,9 +69,9 @@ impl Pieces {
         if self.count == 0 {
             return Err(io::Error::from_raw_os_error(14)); // `EFAULT`: the memory lacks them
         }
-        // SAFETY: the pieces are valid, and are the guest's: the memory keeps them mapped while
-        // `self` borrows from it, and all accesses of this process to them are atomic or volatile.
-        // The call keeps no pointer.
+        // SAFETY: each piece is a slice of the memory, which `self` borrows: by the contract of
+        // `GuestSlice` its bytes are mapped, may be read and written, and are accessed by atomic or
+        // volatile operations alone. There are `count` of them, and the call keeps no pointer.
         let moved = unsafe { call(file.as_raw_fd(), self.list.as_ptr(), self.count, offset) };
         u64::try_from(moved).map_err(|_| io::Error::last_os_error())
     }

@@ -1,6 +1,5 @@
-//! The worker's access to bytes of the guest's memory. Only this module, `chain`, `iotlb` and `sys`
-//! have `unsafe` code. The bytes change while they are copied, so the only references to them are
-//! to atomic numbers.
+//! The worker's access to bytes of the guest's memory. The bytes change while they are copied, so
+//! the only references to them are to atomic numbers.
 #![allow(unsafe_code)]
 
 use core::fmt;
@@ -32,9 +31,9 @@ use core::sync::atomic::{AtomicU16, AtomicU32, AtomicU8, AtomicUsize, Ordering};
 pub struct GuestSlice<'m> {
     at: *mut u8,
     len: usize,
-    /// Whether two bytes or a word may be accessed in one step. Atomic bytes may not: other code
-    /// accesses them one by one, and overlapping accesses of different sizes are a data race in
-    /// Rust.
+    /// Whether several bytes may be accessed in one step: those of `new`. Atomic bytes of safe code
+    /// may not: other safe code accesses them one by one at the same time, and Rust has no
+    /// unsynchronized accesses of different sizes to the same bytes (`core::sync::atomic`).
     is_wide: bool,
     memory: PhantomData<&'m [AtomicU8]>,
 }
@@ -61,8 +60,14 @@ impl<'m> GuestSlice<'m> {
     /// As long as `'m` lasts:
     /// - the bytes are mapped, and may be read and written (`at` may be any pointer if `len` is 0);
     /// - no reference to one of them exists in this process, unless to an atomic number;
-    /// - other threads of this process access them only by atomic or volatile operations. The guest
-    ///   and other processes may access them in any way.
+    /// - other threads of this process access them only by slices, or by atomic or volatile
+    ///   operations. The guest and other processes may access them in any way.
+    ///
+    /// A slice accesses bytes, halves, quarters and words, each by one relaxed atomic operation. The
+    /// guest decides which chains overlap, so accesses of different sizes may meet at one byte, also
+    /// those of two threads of this process. Rust's memory model has no rule for that. Like other
+    /// VMMs this relies on the machine, and on a compiler that makes one instruction of each atomic
+    /// access.
     #[must_use]
     pub unsafe fn new(at: *mut u8, len: usize) -> GuestSlice<'m> {
         GuestSlice { at, len, is_wide: true, memory: PhantomData }
@@ -95,7 +100,9 @@ impl<'m> GuestSlice<'m> {
     }
 
     fn atomic_byte(&self, from: usize) -> &'m AtomicU8 {
-        // SAFETY: the bytes are valid by the contract of `new`, and each may be accessed alone.
+        accessed(1);
+        // SAFETY: the byte is in the slice, and valid: by the contract of `new`, or since it is one
+        // of the atomic bytes of `from`.
         unsafe { &*self.byte(from).cast::<AtomicU8>() }
     }
 
@@ -107,8 +114,10 @@ impl<'m> GuestSlice<'m> {
         {
             return None;
         }
-        // SAFETY: the bytes are valid by the contract of `new`; the word is aligned, and lies in
-        // the slice.
+        accessed(1);
+        // SAFETY: the slice is of `new`, by whose contract its bytes are valid and are accessed by
+        // atomic or volatile operations alone, of any size. The word is aligned, and lies in the
+        // slice.
         Some(unsafe { &*at.cast::<AtomicUsize>() })
     }
 
@@ -120,7 +129,8 @@ impl<'m> GuestSlice<'m> {
         if !self.is_wide || len < word || len > self.len || self.at as usize % word != 0 {
             return &[];
         }
-        // SAFETY: as of `word`, of each of these.
+        accessed(len / word);
+        // SAFETY: as in `word`: the first is aligned, and all of them lie in the slice.
         unsafe { slice::from_raw_parts(self.at.cast::<AtomicUsize>(), len / word) }
     }
 
@@ -131,7 +141,8 @@ impl<'m> GuestSlice<'m> {
         {
             return None;
         }
-        // SAFETY: as of `word`.
+        accessed(1);
+        // SAFETY: as in `word`: it is aligned, and lies in the slice.
         Some(unsafe { &*self.at.cast::<AtomicU16>() })
     }
 
@@ -142,7 +153,8 @@ impl<'m> GuestSlice<'m> {
         {
             return None;
         }
-        // SAFETY: as of `word`.
+        accessed(1);
+        // SAFETY: as in `word`: it is aligned, and lies in the slice.
         Some(unsafe { &*self.at.cast::<AtomicU32>() })
     }
 
@@ -224,10 +236,71 @@ impl<'m> GuestSlice<'m> {
     }
 }
 
+/// Tests count the atomic accesses.
+#[cfg(test)]
+use tests::accessed;
+
+#[cfg(not(test))]
+const fn accessed(_count: usize) {}
+
 #[cfg(test)]
 mod tests {
     use super::*;
-    use core::cell::UnsafeCell;
+    use core::cell::{Cell, UnsafeCell};
+
+    std::thread_local! {
+        static ACCESSES: Cell<usize> = const { Cell::new(0) };
+    }
+
+    pub fn accessed(count: usize) {
+        ACCESSES.with(|accesses| accesses.set(accesses.get() + count));
+    }
+
+    /// How many accesses something makes.
+    fn accesses(what: impl FnOnce()) -> usize {
+        ACCESSES.with(|accesses| accesses.set(0));
+        what();
+        ACCESSES.with(Cell::get)
+    }
+
+    /// A ring's number isn't torn: the guest writes it in one step, and reads it so.
+    #[test]
+    fn a_number_is_one_access() {
+        each_slice(|slice, is_wide| {
+            for from in 0..9 {
+                let steps = |size| if is_wide && from % size == 0 { 1 } else { size };
+                let (half, quarter) = (slice(from, 2), slice(from, 4));
+                let load = || {
+                    half.load_u16();
+                };
+                assert_eq!(accesses(load), steps(2), "{from}");
+                assert_eq!(accesses(|| half.store_u16(7)), steps(2), "{from}");
+                assert_eq!(accesses(|| quarter.store_u32(7)), steps(4), "{from}");
+            }
+        });
+    }
+
+    /// Each byte is accessed once.
+    #[test]
+    fn a_copy_is_as_few_accesses_as_can_be() {
+        let size = size_of::<usize>();
+        each_slice(|slice, is_wide| {
+            for (from, len) in (0..9).flat_map(|from| (0..31).map(move |len| (from, len))) {
+                let begin = len.min((size - from % size) % size);
+                let words = if is_wide { (len - begin) / size } else { 0 };
+                let wanted = words + len - size * words;
+                let (part, mut bytes) = (slice(from, len), [0; 40]);
+                let load = || {
+                    part.load(&mut bytes);
+                };
+                assert_eq!(accesses(load), wanted, "{from} {len}");
+                let store = || {
+                    part.store(&[7; 40]);
+                };
+                assert_eq!(accesses(store), wanted, "{from} {len}");
+            }
+        });
+    }
 
     /// Slices of 40 bytes, aligned to words, which are accessed by words and byte by byte.
     fn each_slice(mut test: impl FnMut(&dyn Fn(usize, usize) -> GuestSlice<'static>, bool)) {

@@ -82,7 +82,8 @@ impl GuestMemory for Memory {
         if !self.is_shared {
             return Some(bytes.into());
         }
-        // SAFETY: the bytes may change while they are shared, and live as long as `self`.
+        // SAFETY: the bytes live as long as `self`, and are atomic: they may be written. All
+        // accesses to them are by slices, and so are the guest's.
         Some(unsafe { GuestSlice::new((bytes.as_ptr() as *mut AtomicU8).cast(), len) })
     }
 }
