@@ -320,3 +320,21 @@ impl std::error::Error for Unsent {
         Some(&self.0.status)
     }
 }
+
+#[cfg(test)]
+mod tests {
+    use super::*;
+
+    /// An object whose request's number differs in one bit is refused, and the other isn't.
+    #[test]
+    fn a_request_is_compared_by_each_bit() {
+        let (session, slot) = (Arc::new(()), Slot::default());
+        for bit in 0..u64::BITS {
+            let (id, other) = (RequestId::of(0x8001), RequestId::of(0x8001 ^ 1 << bit));
+            slot.open(id, &Arc::downgrade(&session));
+            assert!(slot.is_open(id) && !slot.is_open(other), "{bit}");
+            assert!(slot.put(other, Ok(Response::Done)).is_some() && slot.is_open(id), "{bit}");
+            assert!(slot.put(id, Ok(Response::Done)).is_none() && !slot.is_open(id), "{bit}");
+        }
+    }
+}

@@ -52,6 +52,11 @@ impl RequestId {
         RequestId(LAST_REQUEST.fetch_add(1, Ordering::Relaxed) + 1)
     }
 
+    #[cfg(test)]
+    pub(crate) const fn of(number: u64) -> RequestId {
+        RequestId(number)
+    }
+
     /// The number; 0 only of the default, which no chain has.
     #[must_use]
     pub const fn number(self) -> u64 {

@@ -5,6 +5,7 @@ mod guest;
 use guest::recorder::{entry, opened, Recorder};
 use guest::*;
 use pitskhomu::*;
+use std::panic::{catch_unwind, AssertUnwindSafe};
 
 const HELLO: &[u8] = b"hello\0";
 
@@ -119,6 +120,33 @@ fn a_push_that_is_refused_is_undone_once() {
                 assert_eq!(worker.cancelled().expect("a call").undo, undo, "{opcode}");
             }
             assert!(worker.abandon().is_none() && !worker.has_chain());
+        }
+    }
+}
+
+/// The memory panics at one of a push's accesses. From the first store on the guest may get the
+/// answer, so nothing is undone.
+#[test]
+fn a_push_that_panics_is_not_undone() {
+    for (opcode, args, room, _) in givers() {
+        let accesses = |panics_at: Option<u64>| {
+            let (mut guest, recorder) = (Guest::new(), recorder());
+            pop(&mut guest, opcode, &args, room);
+            answer(&mut guest, Way::Methods, &recorder);
+            guest.memory.slices.take();
+            guest.memory.panics_at.set(panics_at);
+            let Guest { worker, queue, memory, .. } = &mut guest;
+            let pushed = catch_unwind(AssertUnwindSafe(|| worker.push(queue, memory)));
+            assert_eq!(pushed.is_err(), panics_at.is_some(), "{opcode} {panics_at:x?}");
+            assert_eq!(queue.in_flight(), 0);
+            assert!(worker.cancelled().is_none(), "{opcode} {panics_at:x?}");
+            assert!(worker.abandon().is_none() && undoing(&recorder).is_empty());
+            guest.memory.slices.take()
+        };
+        let all = accesses(None);
+        assert!(all.len() >= 5, "the reply, the used element, its index, the flags: {all:x?}");
+        for at in all {
+            accesses(Some(at));
         }
     }
 }
