@@ -63,11 +63,11 @@ impl<'m> GuestSlice<'m> {
     /// - other threads of this process access them only by slices, or by atomic or volatile
     ///   operations. The guest and other processes may access them in any way.
     ///
-    /// A slice accesses bytes, halves, quarters and words, each by one relaxed atomic operation. The
-    /// guest decides which chains overlap, so accesses of different sizes may meet at one byte, also
-    /// those of two threads of this process. Rust's memory model has no rule for that. Like other
-    /// VMMs this relies on the machine, and on a compiler that makes one instruction of each atomic
-    /// access.
+    /// A slice accesses bytes, halves, quarters and words, each by one relaxed atomic operation.
+    /// The guest decides which chains overlap, so accesses of different sizes may meet at one byte,
+    /// also those of two threads of this process. Rust's memory model has no rule for that. Like
+    /// other VMMs this relies on the machine, and on a compiler that makes one instruction of each
+    /// atomic access.
     #[must_use]
     pub unsafe fn new(at: *mut u8, len: usize) -> GuestSlice<'m> {
         GuestSlice { at, len, is_wide: true, memory: PhantomData }
