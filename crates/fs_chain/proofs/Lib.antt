@@ -22,3 +22,5 @@ pub mod Replies
 pub mod RingPlaces
 pub mod Steps
 pub mod Together
+pub mod Filling
+pub mod Moves

@@ -23,3 +23,5 @@ pub mod Serials
 pub mod Walks
 pub mod Tables
 pub mod Together
+pub mod Filling
+pub mod Moves

@@ -1,12 +1,15 @@
 //! Theorems about the definitions, as contracts of functions that do nothing.
 
+ghost use Rattle.fs_chain.specs.Filling.{HandleFillsBuffer, HandleFillsRange};
 ghost use Rattle.fs_chain.specs.Held.{AskedIsMapped, HeldIsUnreplied, LoadsAreFew, LoadsCount};
 ghost use Rattle.fs_chain.specs.HoldsListings.{BeginsListing, GathersDecoded, LeavesOut, ListingIsHeld};
 ghost use Rattle.fs_chain.specs.HoldsListings.{LooksUp, ReadsDirectory};
 ghost use Rattle.fs_chain.specs.Laws.{WalksAreOffers};
+ghost use Rattle.fs_chain.specs.Moves.{HandleMovesDevice};
 ghost use Rattle.fs_chain.specs.Together.{FindsOwn, JoinsOthers, KeepsOthers, LeavesOthers};
 
 use fs_regions::laws::law_offers;
+use fuse_fs::FileSystem;
 
 /// The result of a pop that ended is the offer of each memory that has all its loads in the run's mappings:
 /// no chain, a refusal, or the chain, with its fault or with its request and the addresses of its reply
@@ -46,4 +49,15 @@ pub fn law_listings()
     ensures reads { ReadsDirectory }
     ensures looks_up { LooksUp }
     ensures leaves_out { LeavesOut }
+{}
+
+/// These are events of a run between the calls of its handles, while the guest writes and any other chains
+/// are in flight:
+/// - storing data in the windows, or the ranges, of a reply buffer. A window is found by the mappings of its
+///   chain's pop
+/// - while no chain is in flight, a record that is made here and read elsewhere
+pub fn law_handles<F: FileSystem>()
+    ensures fills_buffer { HandleFillsBuffer F.may }
+    ensures fills_range { HandleFillsRange F.may }
+    ensures moves_device { HandleMovesDevice F.may }
 {}

@@ -1,5 +1,5 @@
 -- A device that moves: C saves a record, and restores it elsewhere. The theorems end in what the event of a
--- move needs (`HandleMovesDevice` of `fs_live`).
+-- move needs (`HandleMovesDevice` of `fs_chain`).
 use Rattle.std.specs.Prelude.{◌≡◌, ◌≤◌, ◌<◌, ◌^◌, ◌++◌, ℕ, List, [], ◌∷◌, drop, is_some, length, map, take}
 use Rattle.std.specs.List.{AllByRecursion}
 use Rattle.fs_queue.specs.Queue.{Queue}

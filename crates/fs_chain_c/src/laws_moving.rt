@@ -5,7 +5,7 @@ ghost use Rattle.fs_chain_c.specs.Moving.{MovesByRecord, RestoresARecord, SavesA
 
 /// `pk_save` writes a record of the queues that the core has, and `pk_restore_unnumbered` resets them from
 /// one. After a save, a restore that succeeds returns the same options and queues, ready for the event of a
-/// move (`fs_live`).
+/// move (`law_handles` of `fs_chain`).
 pub fn law_moves()
     ensures saves { SavesARecord }
     ensures restores { RestoresARecord }

@@ -6,7 +6,7 @@ use Rattle.virtiofsd_fuse.specs.Serving.{May}
 use Rattle.live_machine.specs.Several.{LiveQueue}
 use Rattle.fs_chain.specs.Holds.{live_of}
 use Rattle.fs_chain.specs.declared.queue.QueueState.{QueueState}
-use Rattle.fs_live.specs.Moves.{HandleMovesDevice, recorded}
+use Rattle.fs_chain.specs.Moves.{HandleMovesDevice, recorded}
 
 all_recorded : (ks : List QueueState) → map (λ w. w.queue) (map live_of ks) ≡ map recorded ks
 all_recorded [] = refl

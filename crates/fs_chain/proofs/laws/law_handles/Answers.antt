@@ -1,6 +1,6 @@
-use Rattle.fs_live.proofs.Filling.{handle_fills, handle_fills_range}
-use Rattle.fs_live.proofs.Moves.{handle_moves}
-use Rattle.fs_live.proofs.law_handles.Goals as goal
+use Rattle.fs_chain.proofs.Filling.{handle_fills, handle_fills_range}
+use Rattle.fs_chain.proofs.Moves.{handle_moves}
+use Rattle.fs_chain.proofs.laws.law_handles.Goals as goal
 
 pub returns-clause-moves_device : goal.returns-clause-moves_device
 returns-clause-moves_device g c = handle_moves g.F.FileSystemBase.may

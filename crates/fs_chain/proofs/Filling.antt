@@ -15,7 +15,7 @@ use Rattle.fs_queue.specs.Taking.{addresses_of, writable}
 use Rattle.fs_regions.specs.Places.{places_in}
 use Rattle.virtiofsd_fuse.specs.Serving.{May}
 use Rattle.plain_machine.specs.StepBy.{byte_store}
-use Rattle.fs_live.specs.Filling.{HandleFillsBuffer, HandleFillsRange, HasRoom}
+use Rattle.fs_chain.specs.Filling.{HandleFillsBuffer, HandleFillsRange, HasRoom}
 use Rattle.live_machine.specs.Live.{Abandoned, IsStoredIn, Phase, PoppedFaulty, room_of_phase, room_of}
 use Rattle.live_machine.proofs.Queues.{same_some}
 
