@@ -116,6 +116,29 @@ rows() {
     ! perf_counts || instructions
 }
 
+# Without a guest: load.c, by paths, and by file handles.
+loads() {
+    local kind daemon count options priority=()
+    take_virtiofsd
+    make_virtiofsd
+    compile load load.c front.c
+    rm -rf "$work/load-share" "$work"/loads.*
+    mkdir -p "$work/load-share"
+    ! chrt -f 5 true 2> "$work/none" || priority=(chrt -f 5)
+    for kind in $(turns "${ROUNDS:-5}"); do
+        [ "$kind" = ours ] && daemon=$DAEMON || daemon=$work/virtiofsd
+        for count in 15000 60000; do
+            [ $count = 15000 ] && options=() ||
+                options=(--inode-file-handles=mandatory --migration-mode=file-handles)
+            "${priority[@]}" "$work/load" "$daemon" "$work/load-share" $count "${options[@]}" \
+                >> "$work/loads.$kind" 2> "$work/loads.errors" ||
+                failure "loads of $kind: $(tail -n 3 "$work/loads.errors")"
+        done
+    done
+    echo "milliseconds, least and median of ${ROUNDS:-5} in turn: ours, virtiofsd, ratio of medians"
+    compare "$work"/loads.{ours,virtiofsd}
+}
+
 # Whether perf counts a process's instructions on this machine.
 perf_counts() {
     [ -n "$(type -P perf)" ] && perf stat -x, -e instructions:u true 2>&1 | grep -q '^[0-9]'

@@ -5,7 +5,7 @@ use crate::adapter::Adapter;
 use crate::in_flight::Doing;
 use crate::iommu::Cancel;
 use crate::memory::Table;
-use crate::open_flags::{Descriptors, OpenFlags};
+use crate::open_flags::OpenFlags;
 use crate::ring::{Patience, Ring, Server, LAST_CHAINS};
 use log::{debug, error};
 use pitskhomu::live::Asked;
@@ -37,8 +37,6 @@ pub struct Core<F> {
     pub rings: Vec<Ring>,
     /// Which of the guest's open flags apply on the host.
     pub flags: OpenFlags,
-    /// The daemon's own descriptors.
-    pub descriptors: Descriptors,
     /// What each session agrees on.
     pub always_agreed: pitskhomu::Options,
     /// The number of calls of an earlier session that may change the next one.
@@ -61,8 +59,6 @@ pub struct Parts<F> {
     pub threads: u16,
     /// Which of the guest's open flags apply on the host.
     pub flags: OpenFlags,
-    /// The daemon's own descriptors.
-    pub descriptors: Descriptors,
     /// What each session agrees on.
     pub always_agreed: pitskhomu::Options,
 }
@@ -71,7 +67,7 @@ impl<F: ServedFs> Core<F> {
     /// A device without memory whose rings aren't started. `threads` threads serve each request
     /// queue, and one the high-priority queue.
     pub fn new(parts: Parts<F>) -> io::Result<Core<F>> {
-        let Parts { fs, request_queues, threads, flags, descriptors, always_agreed } = parts;
+        let Parts { fs, request_queues, threads, flags, always_agreed } = parts;
         if !pitskhomu::is_compatible() {
             return Err(io::Error::other("the archive lacks functions that the wrapper calls"));
         }
@@ -86,7 +82,6 @@ impl<F: ServedFs> Core<F> {
             device: pitskhomu::Device::default(),
             rings,
             flags,
-            descriptors,
             always_agreed,
             late,
             is_ending: AtomicBool::new(false),

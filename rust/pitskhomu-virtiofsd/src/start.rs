@@ -4,7 +4,7 @@ use crate::fd_table;
 use crate::front_end::FrontEnd;
 use crate::iommu;
 use crate::logger::{self, Logger};
-use crate::open_flags::{Descriptors, OpenFlags};
+use crate::open_flags::OpenFlags;
 use crate::options::Options;
 use crate::serve::{Core, Parts, QueueWorker, ServedFs};
 use crate::socket::Socket;
@@ -207,10 +207,7 @@ pub fn run(mut options: Options, logger: &Logger) -> Result<(), Failure> {
     fd_table::widen(scratch.as_fd()); // after the sandbox's fork, and before other threads
 
     let proc_self_fd = sandbox.get_proc_self_fd();
-    let descriptors =
-        Descriptors::new(proc_self_fd.as_ref()).map_err(|e| format!("/proc/self/fd: {e}"))?;
-
-    let serving = Serving::new(&mut options, listener, Kept { capabilities, scratch, descriptors });
+    let serving = Serving::new(&mut options, listener, Kept { capabilities, scratch });
     let readonly = options.readonly;
     let config = config(options, &mut sandbox, proc_self_fd, guest_descriptors);
     if readonly {
@@ -224,7 +221,6 @@ pub fn run(mut options: Options, logger: &Logger) -> Result<(), Failure> {
 struct Kept {
     capabilities: capabilities::Changes,
     scratch: File,
-    descriptors: Descriptors,
 }
 
 /// The options and objects that serving needs besides the file system.
@@ -238,13 +234,12 @@ struct Serving {
     seccomp: crate::options::Seccomp,
     syslog: bool,
     flags: OpenFlags,
-    descriptors: Descriptors,
     always_agreed: pitskhomu::Options,
 }
 
 impl Serving {
     fn new(options: &mut Options, listener: Listener, kept: Kept) -> Serving {
-        let Kept { capabilities, scratch, descriptors } = kept;
+        let Kept { capabilities, scratch } = kept;
         Serving {
             listener,
             scratch,
@@ -259,21 +254,14 @@ impl Serving {
                 preserve_noatime: options.preserve_noatime,
                 writeback: options.writeback,
             },
-            descriptors,
             always_agreed: options.always_agreed(),
         }
     }
 
     fn serve<F: ServedFs>(self, fs: F, logger: &Logger) -> Result<(), Failure> {
-        let Serving { request_queues, threads, flags, descriptors, always_agreed, .. } = self;
-        let core = Arc::new(Core::new(Parts {
-            fs,
-            request_queues,
-            threads,
-            flags,
-            descriptors,
-            always_agreed,
-        })?);
+        let Serving { request_queues, threads, flags, always_agreed, .. } = self;
+        let core =
+            Arc::new(Core::new(Parts { fs, request_queues, threads, flags, always_agreed })?);
         logger.keep_errors()?;
         capabilities::give_up(&self.capabilities)?;
         system_calls::limit(self.seccomp, self.syslog)?; // new threads inherit it

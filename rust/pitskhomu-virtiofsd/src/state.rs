@@ -16,6 +16,7 @@
 //! (`inner`).
 mod inner;
 
+use crate::open_flags::OpenFlags;
 use crate::serve::{Core, ServedFs};
 use pitskhomu as p;
 use std::fs::File;
@@ -108,10 +109,8 @@ fn send(
 /// Receives a state from this daemon on another host, or from virtiofsd.
 pub fn load<F: ServedFs>(core: &Core<F>, scratch: &File, pipe: File) -> io::Result<()> {
     may_be_loaded(core)?;
-    let before = core.descriptors.open()?;
-    receive(&core.fs, &core.device, core.always_agreed, scratch, pipe)?;
-    // a state of virtiofsd has the guest's own flags
-    core.descriptors.mend_since(&before, core.flags)
+    let settings = Settings { always_agreed: core.always_agreed, flags: core.flags };
+    receive(&core.fs, &core.device, settings, scratch, pipe)
 }
 
 /// The two parts of a state: virtiofsd's own, as virtiofsd wrote it, and the library's record, if
@@ -177,10 +176,19 @@ fn over(
     Ok(bytes)
 }
 
+/// What the command line says of a state that comes in.
+#[derive(Clone, Copy)]
+struct Settings {
+    /// What each session agrees on.
+    always_agreed: p::Options,
+    /// Which of the guest's open flags apply on the host.
+    flags: OpenFlags,
+}
+
 fn receive(
     fs: &impl SerializableFileSystem,
     device: &p::Device,
-    always_agreed: p::Options,
+    settings: Settings,
     scratch: &File,
     pipe: File,
 ) -> io::Result<()> {
@@ -189,7 +197,7 @@ fn receive(
         return Err(io::Error::other("the state is longer than any"));
     }
     let (state, record) = split(bytes)?;
-    inner::check(&state)?;
+    let state = inner::for_host(state, settings.flags)?;
     over(scratch, |file| fs.deserialize_and_apply(file), &Scratch::Write(&state))?;
     device.set_options(p::Options::empty());
     match record {
@@ -199,7 +207,7 @@ fn receive(
         }
         Some(_) => {}
         None => {
-            device.set_options(always_agreed);
+            device.set_options(settings.always_agreed);
             log::warn!(
                 "the state is virtiofsd's, which doesn't say what INIT agreed on: only what \
                 --posix-acl and --security-label need is taken as agreed"
@@ -214,9 +222,14 @@ mod tests {
     use super::*;
     use std::sync::Mutex;
 
-    const NONE: p::Options = p::Options::empty();
+    const NONE: Settings = agreed(p::Options::empty());
     /// A state of virtiofsd's without a node, whose next numbers are 2 and 0.
     const EMPTY: &[u8] = &[1, 0, 2, 0, 0, 0, 0, 0, 0, 0];
+
+    const fn agreed(always_agreed: p::Options) -> Settings {
+        let flags = OpenFlags { allow_direct_io: false, preserve_noatime: false, writeback: false };
+        Settings { always_agreed, flags }
+    }
 
     struct Fs(Mutex<Vec<u8>>);
     impl SerializableFileSystem for Fs {
@@ -278,11 +291,10 @@ mod tests {
     fn a_plain_virtiofsds_comes() {
         let (target, room, device) =
             (Fs(Mutex::default()), scratch().unwrap(), p::Device::default());
-        let agreed = p::Options::SETXATTR_EXT | p::Options::SECURITY_CTX;
-        for agreed in [NONE, agreed] {
-            receive(&target, &device, agreed, &room, file(EMPTY)).unwrap();
+        for always in [p::Options::empty(), p::Options::SETXATTR_EXT | p::Options::SECURITY_CTX] {
+            receive(&target, &device, agreed(always), &room, file(EMPTY)).unwrap();
             assert_eq!(*target.0.lock().unwrap(), EMPTY);
-            assert_eq!(device.options(), agreed);
+            assert_eq!(device.options(), always);
         }
         assert!(receive(&target, &device, NONE, &room, file(&EMPTY.repeat(2))).is_err());
     }

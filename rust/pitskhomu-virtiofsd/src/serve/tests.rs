@@ -75,7 +75,6 @@ fn core() -> (Arc<Core<Holding>>, Receiver<()>, Sender<()>) {
         request_queues: 1,
         threads: 1,
         flags: OpenFlags { allow_direct_io: false, preserve_noatime: false, writeback: false },
-        descriptors: Descriptors::new(None).expect("/proc/self/fd"),
         always_agreed: pitskhomu::Options::empty(),
     });
     let core = Arc::new(core.expect("a core"));

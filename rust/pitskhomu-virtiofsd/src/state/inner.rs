@@ -1,7 +1,8 @@
-//! virtiofsd's own state, as 1.13.2 writes it (postcard), to refuse numbers that no state has.
-//! virtiofsd's reader takes some of them, and ignores bytes after its own. It refuses a node that
-//! has no way to the root itself.
-use serde::Deserialize;
+//! virtiofsd's own state, as 1.13.2 writes it (postcard), to refuse numbers that no state has, and
+//! to correct the flags of open files. virtiofsd's reader takes some of those numbers, and ignores
+//! bytes after its own. It refuses a node that has no way to the root itself.
+use crate::open_flags::OpenFlags;
+use serde::{Deserialize, Serialize};
 use std::collections::{BTreeMap, BTreeSet};
 use std::io;
 
@@ -11,16 +12,14 @@ const ROOT: u64 = 1;
 const NEVER_KEPT: i32 = libc::O_CREAT | libc::O_EXCL | libc::O_TRUNC;
 
 /// The state (`serialized::PassthroughFs` of virtiofsd).
-#[derive(Debug, Deserialize)]
-#[cfg_attr(test, derive(serde::Serialize))]
+#[derive(Debug, Deserialize, Serialize)]
 enum State {
     V1(Parts),
     /// With the paths of mounts.
-    V2(Parts, #[allow(dead_code, reason = "the paths are only read over")] BTreeMap<u64, String>),
+    V2(Parts, BTreeMap<u64, String>),
 }
 
-#[derive(Debug, Deserialize)]
-#[cfg_attr(test, derive(serde::Serialize))]
+#[derive(Debug, Deserialize, Serialize)]
 struct Parts {
     nodes: Vec<Node>,
     next_node: u64,
@@ -30,8 +29,7 @@ struct Parts {
     _agreed: [bool; 4],
 }
 
-#[derive(Debug, Deserialize)]
-#[cfg_attr(test, derive(serde::Serialize))]
+#[derive(Debug, Deserialize, Serialize)]
 struct Node {
     number: u64,
     /// The look-ups of the guest, and one for each node whose place names this one.
@@ -40,8 +38,7 @@ struct Node {
     _file_handle: Option<FileHandle>,
 }
 
-#[derive(Debug, Deserialize)]
-#[cfg_attr(test, derive(serde::Serialize))]
+#[derive(Debug, Deserialize, Serialize)]
 enum Place {
     Root,
     Name { parent: u64, name: String },
@@ -53,16 +50,14 @@ enum Place {
 /// A mount, a type, and bytes.
 type FileHandle = (u64, i32, Vec<u8>);
 
-#[derive(Debug, Deserialize)]
-#[cfg_attr(test, derive(serde::Serialize))]
+#[derive(Debug, Deserialize, Serialize)]
 struct Handle {
     number: u64,
     node: u64,
     source: Source,
 }
 
-#[derive(Debug, Deserialize)]
-#[cfg_attr(test, derive(serde::Serialize))]
+#[derive(Debug, Deserialize, Serialize)]
 enum Source {
     Open { flags: i32 },
 }
@@ -75,21 +70,41 @@ fn is_path(path: &str) -> bool {
     path.split('/').all(is_name)
 }
 
-/// The nodes' numbers, if each number and each place may be.
-fn check_nodes(nodes: &[Node], next: u64) -> Result<BTreeSet<u64>, String> {
-    let (mut numbers, mut children) = (BTreeSet::new(), BTreeMap::<u64, u64>::new());
-    for Node { number, count, place, .. } in nodes {
-        if *number == 0 || *number >= next || !numbers.insert(*number) {
-            return Err(format!("a node {number} that can't be, or is there twice"));
-        }
-        if *count == 0 {
-            return Err(format!("a node {number} that nobody looked up"));
-        }
+/// The nodes' numbers and counts, ordered. A state may have a million.
+struct Counts(Vec<(u64, u64)>);
+
+impl Counts {
+    fn index(&self, number: u64) -> Option<usize> {
+        self.0.binary_search_by_key(&number, |(number, _)| *number).ok()
+    }
+}
+
+/// The nodes' numbers and counts, if each number may be.
+fn check_numbers(nodes: &[Node], next: u64) -> Result<Counts, String> {
+    let mut counts: Vec<_> = nodes.iter().map(|node| (node.number, node.count)).collect();
+    counts.sort_unstable();
+    let is_twice = |pair: &&[(u64, u64)]| pair[0].0 == pair[1].0;
+    let wrong = counts.iter().find(|(number, _)| *number == 0 || *number >= next);
+    if let Some((number, _)) = wrong.or(counts.windows(2).find(is_twice).map(|pair| &pair[0])) {
+        return Err(format!("a node {number} that can't be, or is there twice"));
+    }
+    if let Some((number, _)) = counts.iter().find(|(_, count)| *count == 0) {
+        return Err(format!("a node {number} that nobody looked up"));
+    }
+    Ok(Counts(counts))
+}
+
+/// The nodes' numbers and counts, if each number and each place may be.
+fn check_nodes(nodes: &[Node], next: u64) -> Result<Counts, String> {
+    let counts = check_numbers(nodes, next)?;
+    let mut names = vec![0; counts.0.len()];
+    for Node { number, place, .. } in nodes {
         let is_right = match place {
             Place::Root => *number == ROOT,
             Place::Name { parent, name } => {
-                *children.entry(*parent).or_default() += 1;
-                *number != ROOT && parent != number && is_name(name)
+                let parents = counts.index(*parent).and_then(|index| names.get_mut(index));
+                let has_parent = parents.map(|names| *names += 1).is_some();
+                has_parent && *number != ROOT && parent != number && is_name(name)
             }
             Place::Path { path } => *number != ROOT && is_path(path),
             Place::Lost | Place::FileHandle { .. } => *number != ROOT,
@@ -98,14 +113,14 @@ fn check_nodes(nodes: &[Node], next: u64) -> Result<BTreeSet<u64>, String> {
             return Err(format!("a node {number} at a place that can't be: {place:?}"));
         }
     }
-    if !nodes.is_empty() && !numbers.contains(&ROOT) {
+    if !nodes.is_empty() && counts.index(ROOT).is_none() {
         return Err("no root".into());
     }
-    let counts: BTreeMap<u64, u64> = nodes.iter().map(|node| (node.number, node.count)).collect();
-    match children.into_iter().find(|(parent, names)| counts.get(parent).is_none_or(|n| n < names))
-    {
-        Some((parent, names)) => Err(format!("{names} nodes below a node {parent} that can't be")),
-        None => Ok(numbers),
+    match counts.0.iter().zip(&names).find(|((_, count), names)| count < *names) {
+        Some(((parent, _), names)) => {
+            Err(format!("{names} nodes below a node {parent} that can't be"))
+        }
+        None => Ok(counts),
     }
 }
 
@@ -116,7 +131,7 @@ fn check_parts(parts: &Parts) -> Result<(), String> {
         if *number >= parts.next_handle || !numbers.insert(*number) {
             return Err(format!("a handle {number} that can't be, or is there twice"));
         }
-        if !nodes.contains(node) {
+        if nodes.index(*node).is_none() {
             return Err(format!("a handle {number} of a node {node} that isn't there"));
         }
         if flags & NEVER_KEPT != 0 {
@@ -126,18 +141,35 @@ fn check_parts(parts: &Parts) -> Result<(), String> {
     Ok(())
 }
 
-/// Refuses a state with a number that can't be, and one with more bytes.
-pub fn check(state: &[u8]) -> io::Result<()> {
+/// Changes the flags of open files to those that apply on the host. Returns whether one differs.
+#[allow(clippy::cast_possible_wrap, clippy::cast_sign_loss, reason = "flags are bits")]
+fn correct(handles: &mut [Handle], host: OpenFlags) -> bool {
+    let mut differs = false;
+    for Handle { source: Source::Open { flags }, .. } in handles {
+        let on_host = host.for_host(*flags as u32) as i32;
+        differs |= on_host != *flags;
+        *flags = on_host;
+    }
+    differs
+}
+
+/// Refuses a state with a number that can't be, and one with more bytes. Returns it with the flags
+/// of open files that apply on the host: a state of virtiofsd has the guest's own.
+pub fn for_host(state: Vec<u8>, host: OpenFlags) -> io::Result<Vec<u8>> {
     let refuse = |why: String| {
         io::Error::new(io::ErrorKind::InvalidData, format!("the state is damaged: it has {why}"))
     };
-    let (read, rest) = postcard::take_from_bytes::<State>(state)
+    let (mut read, rest) = postcard::take_from_bytes::<State>(&state)
         .map_err(|e| refuse(format!("another form than virtiofsd's ({e})")))?;
     if !rest.is_empty() {
         return Err(refuse(format!("{} bytes after its end", rest.len())));
     }
-    let (State::V1(parts) | State::V2(parts, _)) = &read;
-    check_parts(parts).map_err(refuse)
+    let (State::V1(parts) | State::V2(parts, _)) = &mut read;
+    check_parts(parts).map_err(refuse)?;
+    if correct(&mut parts.handles, host) {
+        return postcard::to_stdvec(&read).map_err(io::Error::other);
+    }
+    Ok(state)
 }
 
 #[cfg(test)]
@@ -165,6 +197,12 @@ mod tests {
         ];
         let handles = vec![handle(7, 5, libc::O_RDWR)];
         Parts { nodes, next_node: 6, handles, next_handle: 8, _agreed: [false; 4] }
+    }
+
+    fn check(state: &[u8]) -> io::Result<()> {
+        let unchanged = for_host(state.to_vec(), OpenFlags::default())?;
+        assert_eq!(unchanged, state);
+        Ok(())
     }
 
     fn checked(parts: Parts) -> io::Result<()> {
@@ -224,6 +262,31 @@ mod tests {
         }
     }
 
+    /// The file with `O_APPEND` is opened without it, and nothing else of the state changes.
+    #[test]
+    fn open_files_get_the_flags_that_apply_on_the_host() {
+        let with = |flags| {
+            let file_handle = (1, 2, vec![3, 0x80]);
+            let place = Place::FileHandle { _handle: file_handle.clone() };
+            let mut parts = parts();
+            parts.nodes.push(Node { _file_handle: Some(file_handle), ..node(4, 300, place) });
+            parts.handles.push(handle(6, 3, libc::O_DIRECTORY));
+            parts.handles[0].source = Source::Open { flags };
+            let mounts = BTreeMap::from([(1, "dir".into()), (200, String::new())]);
+            postcard::to_stdvec(&State::V2(parts, mounts)).expect("bytes")
+        };
+        let writeback = OpenFlags { writeback: true, ..OpenFlags::default() };
+        for (guests, host, on_host) in [
+            (libc::O_WRONLY | libc::O_APPEND, OpenFlags::default(), libc::O_WRONLY),
+            (libc::O_WRONLY, OpenFlags::default(), libc::O_WRONLY),
+            (libc::O_WRONLY, writeback, libc::O_RDWR),
+            (libc::O_RDWR | libc::O_DIRECT | libc::O_NOATIME, writeback, libc::O_RDWR),
+        ] {
+            let corrected = for_host(with(guests), host).expect("a state");
+            assert_eq!(corrected, with(on_host), "{guests:#o}");
+        }
+    }
+
     #[test]
     fn bytes_that_are_no_state_are_refused() {
         let state = postcard::to_stdvec(&State::V1(parts())).expect("bytes");
@@ -257,6 +320,8 @@ mod tests {
         fs.serialize(written.try_clone().expect("a descriptor")).expect("a state");
         written.rewind().and_then(|()| written.read_to_end(&mut bytes)).expect("bytes");
         check(&bytes).expect("virtiofsd's state");
+        let again = postcard::from_bytes::<State>(&bytes).expect("read");
+        assert_eq!(postcard::to_stdvec(&again).expect("bytes"), bytes);
         let (State::V1(parts) | State::V2(parts, _)) = postcard::from_bytes(&bytes).expect("read");
         assert_eq!((parts.nodes.len(), parts.handles.len()), (3, 1));
         assert_eq!((parts.next_node, parts.next_handle), (file + 1, 1));
