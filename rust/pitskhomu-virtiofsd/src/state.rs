@@ -15,9 +15,11 @@
 //! agrees on are taken as agreed. virtiofsd's own part is accepted only if its numbers may be
 //! (`inner`).
 mod inner;
+mod pipe;
 
 use crate::open_flags::OpenFlags;
 use crate::serve::{Core, ServedFs};
+use pipe::Pipe;
 use pitskhomu as p;
 use std::fs::File;
 use std::hash::Hasher;
@@ -89,8 +91,9 @@ fn send(
     device: &p::Device,
     queues: &[p::Queue],
     scratch: &File,
-    mut pipe: File,
+    pipe: File,
 ) -> io::Result<()> {
+    let mut pipe = Pipe::out(pipe)?;
     let state = over(scratch, |file| fs.serialize(file), &Scratch::Read)?;
     let (version, rest) = state
         .split_first()
@@ -193,7 +196,7 @@ fn receive(
     pipe: File,
 ) -> io::Result<()> {
     let mut bytes = Vec::new();
-    if pipe.take(STATE_MAX + 1).read_to_end(&mut bytes)? as u64 > STATE_MAX {
+    if Pipe::into(pipe)?.take(STATE_MAX + 1).read_to_end(&mut bytes)? as u64 > STATE_MAX {
         return Err(io::Error::other("the state is longer than any"));
     }
     let (state, record) = split(bytes)?;

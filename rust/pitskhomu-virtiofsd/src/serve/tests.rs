@@ -63,6 +63,10 @@ impl SerializableFileSystem for Holding {
         self.hold();
         file.write_all(&EMPTY[4..])
     }
+
+    fn deserialize_and_apply(&self, _file: File) -> io::Result<()> {
+        Ok(())
+    }
 }
 
 /// A core over it, and the ends of its channels.
@@ -189,6 +193,27 @@ fn nobody_waits_for_a_transfer_when_the_front_end_has_left() {
     let left = is_done.recv_timeout(SOON).expect("an end");
     assert!(left.expect_err("no state").to_string().starts_with("the front-end left"));
     drop(others);
+}
+
+/// A front-end that keeps the pipe, and writes nothing, gets an error. The next state is loaded.
+#[test]
+fn a_state_that_never_comes_is_not_waited_for() {
+    let (core, ..) = core();
+    let mut migration = Migration::new(core, scratch().expect("a file")).expect("events");
+    let (pipe, front_ends) = UnixStream::pair().expect("a pipe");
+    migration.load(File::from(OwnedFd::from(pipe)));
+    let (done, is_done) = channel();
+    thread::spawn(move || {
+        let late = migration.finish().expect_err("no state").to_string();
+        let _ = done.send((migration, late));
+    });
+    let (mut migration, late) = is_done.recv_timeout(SOON).expect("an end");
+    assert!(late.contains("wrote nothing"), "{late}");
+    drop(front_ends);
+    let mut state = scratch().expect("a file");
+    state.write_all(&EMPTY).and_then(|()| state.rewind()).expect("a state");
+    migration.load(state);
+    migration.finish().expect("a state");
 }
 
 /// In a process of its own, whose user may have no further thread: a transfer fails, and a reset
