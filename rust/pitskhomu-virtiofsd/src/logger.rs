@@ -1,17 +1,19 @@
 //! The log: lines to standard error or to syslog. While a directory is served a thread of its own
 //! writes them, so that no ring and no message waits for those who read the log. Each kind of line
 //! has a limit (`limits`). If nobody reads the log, lines are left out, and counted.
+mod errors;
 mod limits;
 
+pub use errors::{lead as lead_errors, without_errors};
 use limits::{Limits, Line};
 use log::{Level, Log, Metadata, Record};
 use std::env;
 use std::error::Error;
-use std::fs::{File, OpenOptions};
+use std::fs::File;
 use std::io;
-use std::os::fd::{AsFd, AsRawFd, FromRawFd};
+use std::os::fd::AsRawFd;
 use std::panic::PanicHookInfo;
-use std::sync::atomic::{AtomicI32, AtomicU64, Ordering};
+use std::sync::atomic::{AtomicBool, AtomicI32, AtomicU64, Ordering};
 use std::sync::mpsc::{sync_channel, Receiver, RecvTimeoutError, SyncSender};
 use std::sync::{Arc, Mutex, MutexGuard, OnceLock, PoisonError};
 use std::thread;
@@ -25,8 +27,6 @@ use crate::options::Options;
 const MOST_WAITING: usize = 1024;
 /// The time in which the last lines must be written when the daemon ends.
 const LAST_LINES: Duration = Duration::from_millis(200);
-/// The log's own descriptors have this number or a greater one.
-const OWN_NUMBERS: libc::c_int = 64;
 /// The time between two looks for numbers of lines left out, if no period ends before.
 const LOOK: Duration = Duration::from_secs(3600);
 
@@ -36,6 +36,8 @@ static ERRORS: AtomicI32 = AtomicI32::new(libc::STDERR_FILENO);
 /// A message to the thread that writes.
 enum ToWrite {
     Line(Line),
+    /// Answer once the lines before it are written.
+    Written(SyncSender<()>),
     /// Write the numbers of all lines left out, and answer.
     All(SyncSender<()>),
 }
@@ -49,41 +51,38 @@ struct Shared {
     sender: OnceLock<SyncSender<ToWrite>>,
     /// The number of lines that the thread didn't get, since the log wasn't read.
     lost: AtomicU64,
-    /// Where other writes to standard error go while a directory is served.
-    nowhere: Option<File>,
+    /// A wait for the thread was in vain, and it has written nothing since.
+    is_stuck: AtomicBool,
 }
 
 /// The daemon's log.
 pub struct Logger(Arc<Shared>);
 
-/// Each panic is a line of the log. A backtrace would need system calls that the filter refuses.
+/// Each panic is a line of the log. A backtrace would need system calls that the filter refuses. A
+/// panic that can't be caught ends the process right after this.
 fn log_panic(panic: &PanicHookInfo<'_>) {
     log::error!("{}: {panic}", thread::current().name().unwrap_or("a thread"));
+    log::logger().flush();
 }
 
-/// A copy of a descriptor, with a number that `--fd` doesn't name by mistake.
-fn moved(file: impl AsFd) -> io::Result<File> {
-    // SAFETY: the descriptor is open, and no memory is touched.
-    let fd = unsafe { libc::fcntl(file.as_fd().as_raw_fd(), libc::F_DUPFD_CLOEXEC, OWN_NUMBERS) };
-    if fd < 0 {
-        return Err(io::Error::last_os_error());
-    }
-    // SAFETY: the descriptor is new, and nothing else owns it.
-    Ok(unsafe { File::from_raw_fd(fd) })
+/// Writes lines to syslog.
+fn to_syslog() -> Result<Box<dyn Log>, String> {
+    let format = Formatter3164 {
+        facility: Facility::LOG_DAEMON,
+        hostname: None,
+        process: "pitskhomu-virtiofsd".into(),
+        pid: std::process::id(),
+    };
+    let socket = syslog::unix(format).map_err(|e| {
+        let causes: Vec<String> = e.iter().skip(1).map(ToString::to_string).collect();
+        causes.join(": ")
+    })?;
+    Ok(Box::new(BasicLogger::new(socket)))
 }
 
-/// The writer of lines that the options and the environment ask for.
-fn writer(options: &Options) -> Result<(Box<dyn Log>, log::LevelFilter), Box<dyn Error>> {
-    if options.syslog {
-        let format = Formatter3164 {
-            facility: Facility::LOG_DAEMON,
-            hostname: None,
-            process: "pitskhomu-virtiofsd".into(),
-            pid: std::process::id(),
-        };
-        return Ok((Box::new(BasicLogger::new(syslog::unix(format)?)), options.messages()));
-    }
-    let errors = moved(io::stderr())?;
+/// Writes lines to standard error.
+fn to_errors(options: &Options, errors: &File) -> io::Result<(Box<dyn Log>, log::LevelFilter)> {
+    let errors = errors::moved(errors)?;
     ERRORS.store(errors.as_raw_fd(), Ordering::Relaxed);
     let mut builder = env_logger::Builder::new();
     match env::var("RUST_LOG") {
@@ -96,29 +95,40 @@ fn writer(options: &Options) -> Result<(Box<dyn Log>, log::LevelFilter), Box<dyn
 }
 
 impl Logger {
-    /// Begins the log. Until `start` the caller itself writes each line.
+    /// Begins the log. Until `start` the caller itself writes each line. Without syslog's socket
+    /// the log goes to standard error, as virtiofsd's does.
     pub fn new(options: &Options) -> Result<Logger, Box<dyn Error>> {
-        let (writer, level) = writer(options)?;
-        let nowhere = OpenOptions::new().write(true).open("/dev/null").and_then(moved);
-        let logger = Logger::over(writer, nowhere.ok());
+        let errors = errors::moved(io::stderr())?;
+        let syslog = options.syslog.then(to_syslog);
+        let no_syslog = syslog.as_ref().and_then(|syslog| syslog.as_ref().err()).cloned();
+        let (writer, level) = match syslog {
+            Some(Ok(writer)) => (writer, options.messages()),
+            _ => to_errors(options, &errors)?,
+        };
+        errors::open(errors, options.syslog && no_syslog.is_none())?;
+        let logger = Logger::over(writer);
         log::set_boxed_logger(Box::new(Logger(logger.0.clone())))?;
         log::set_max_level(level);
         std::panic::set_hook(Box::new(log_panic));
+        // std prints a backtrace at a failed allocation, and the filter refuses the calls for that
+        env::remove_var("RUST_BACKTRACE");
+        if let Some(why) = no_syslog {
+            log::warn!("no syslog, so the log goes to standard error: /dev/log: {why}");
+        }
         Ok(logger)
     }
 
-    fn over(writer: Box<dyn Log>, nowhere: Option<File>) -> Logger {
+    fn over(writer: Box<dyn Log>) -> Logger {
         Logger(Arc::new(Shared {
             writer,
             limits: Mutex::default(),
             sender: OnceLock::new(),
             lost: AtomicU64::new(0),
-            nowhere,
+            is_stuck: AtomicBool::new(false),
         }))
     }
 
-    /// Starts the thread that writes. It must have the caller's filter and capabilities. A library
-    /// that writes to standard error itself writes nowhere from here on.
+    /// Starts the thread that writes. It must have the caller's filter and capabilities.
     pub fn start(&self) -> io::Result<()> {
         let (sender, receiver) = sync_channel(MOST_WAITING);
         let shared = self.0.clone();
@@ -127,23 +137,9 @@ impl Logger {
         Ok(())
     }
 
-    /// Leads standard error nowhere, but for the log's own lines.
-    pub fn keep_errors(&self) -> io::Result<()> {
-        let Some(nowhere) = &self.0.nowhere else { return Ok(()) };
-        // SAFETY: both descriptors are open, and no memory is touched.
-        match unsafe { libc::dup2(nowhere.as_raw_fd(), libc::STDERR_FILENO) } {
-            -1 => Err(io::Error::last_os_error()),
-            _ => Ok(()),
-        }
-    }
-
     /// Waits a moment until the last lines are written.
     pub fn finish(&self) {
-        let Some(sender) = self.0.sender.get() else { return };
-        let (done, is_done) = sync_channel(1);
-        if sender.try_send(ToWrite::All(done)).is_ok() {
-            let _ = is_done.recv_timeout(LAST_LINES);
-        }
+        self.0.wait_for(ToWrite::All);
     }
 }
 
@@ -173,6 +169,18 @@ impl Shared {
         }
     }
 
+    /// Sends a message to the thread, and waits a moment for its answer, unless it is stuck: nobody
+    /// reads the log.
+    fn wait_for(&self, message: impl FnOnce(SyncSender<()>) -> ToWrite) {
+        let Some(sender) = self.sender.get() else { return };
+        let (done, is_done) = sync_channel(1);
+        if self.is_stuck.load(Ordering::Relaxed) || sender.try_send(message(done)).is_err() {
+            return;
+        }
+        let is_done = is_done.recv_timeout(LAST_LINES);
+        self.is_stuck.store(is_done == Err(RecvTimeoutError::Timeout), Ordering::Relaxed);
+    }
+
     /// Says how many lines were lost since the last time.
     fn say_lost(&self) {
         let lost = self.lost.swap(0, Ordering::Relaxed);
@@ -189,6 +197,7 @@ impl Shared {
             let next = self.limits().next_due(Instant::now()).unwrap_or(LOOK);
             let (lines, done) = match receiver.recv_timeout(next) {
                 Ok(ToWrite::Line(line)) => (vec![line], None),
+                Ok(ToWrite::Written(done)) => (vec![], Some(done)),
                 Ok(ToWrite::All(done)) => (self.limits().all(), Some(done)),
                 Err(RecvTimeoutError::Timeout) => (self.limits().due(Instant::now()), None),
                 Err(RecvTimeoutError::Disconnected) => return,
@@ -197,6 +206,7 @@ impl Shared {
                 self.write(line);
             }
             self.say_lost();
+            self.is_stuck.store(false, Ordering::Relaxed);
             if let Some(done) = done {
                 let _ = done.try_send(());
             }
@@ -218,7 +228,9 @@ impl Log for Logger {
         }
     }
 
+    /// Waits a moment until the lines so far are written.
     fn flush(&self) {
+        self.0.wait_for(ToWrite::Written);
         self.0.writer.flush();
     }
 }
@@ -283,7 +295,7 @@ mod tests {
     fn nobody_waits_for_a_log_that_is_not_read() {
         let ((permit, permits), (written, lines)) = (channel(), channel());
         let slow = Slow { permits: Mutex::new(permits), written: Mutex::new(written) };
-        let logger = Logger::over(Box::new(slow), None);
+        let logger = Logger::over(Box::new(slow));
         logger.start().expect("a thread");
         let before = Instant::now();
         for k in 0..3000 {

@@ -12,10 +12,11 @@ use crate::state;
 use crate::system_calls;
 use log::{debug, error, info, warn, Level};
 use std::error::Error;
-use std::fs::File;
+use std::fs::{self, File};
 use std::io;
 use std::os::fd::{AsFd, AsRawFd};
 use std::path::Path;
+use std::sync::mpsc::{channel, Sender};
 use std::sync::{Arc, Mutex, PoisonError};
 use std::thread;
 use std::time::Duration;
@@ -31,6 +32,10 @@ type Failure = Box<dyn Error>;
 /// The daemon's own descriptors: memory, rings, a migration, and virtiofsd's temporary ones. Each
 /// thread needs one more: it opens a descriptor before it counts it.
 const OWN_DESCRIPTORS: u64 = 609;
+/// The memory maps of a thread: its stack and its stack for signals, each with a guard page.
+const THREAD_MAPS: u64 = 4;
+/// The other memory maps: the program, its heap, the guest's memory.
+const OWN_MAPS: u64 = 500;
 /// With fewer descriptors for the guest there is a warning.
 const FEW_DESCRIPTORS: u64 = 128;
 const DAY: Duration = Duration::from_secs(24 * 60 * 60);
@@ -135,6 +140,22 @@ fn guest_descriptors(options: &Options) -> Result<u64, Failure> {
     Ok(left)
 }
 
+/// An error if the system allows fewer memory maps than the threads need. Without it some of them
+/// would end the process while they start.
+fn check_threads(options: &Options) -> Result<(), Failure> {
+    let (queues, pool) = (options.num_request_queues, options.thread_pool_size.max(1));
+    let wanted = OWN_MAPS + THREAD_MAPS * u64::from(pool) * u64::from(queues);
+    let allowed = fs::read_to_string("/proc/sys/vm/max_map_count");
+    match allowed.ok().and_then(|number| number.trim().parse().ok()) {
+        Some(allowed) if wanted > allowed => Err(format!(
+            "{queues} queues of {pool} threads may need {wanted} memory maps, and \
+            vm.max_map_count is {allowed}"
+        )
+        .into()),
+        _ => Ok(()),
+    }
+}
+
 /// The message for an error of the sandbox.
 fn sandbox_error(e: sandbox::Error) -> String {
     #[allow(clippy::enum_glob_use, reason = "all of them are named below")]
@@ -194,6 +215,7 @@ pub fn run(mut options: Options, logger: &Logger) -> Result<(), Failure> {
         return Err((*last).into());
     }
     let capabilities = capabilities::Changes::new(&options)?;
+    check_threads(&options)?;
     let guest_descriptors = guest_descriptors(&options)?;
     let (uid_map, gid_map) =
         (std::mem::take(&mut options.uid_map), std::mem::take(&mut options.gid_map));
@@ -262,16 +284,12 @@ impl Serving {
         let Serving { request_queues, threads, flags, always_agreed, .. } = self;
         let core =
             Arc::new(Core::new(Parts { fs, request_queues, threads, flags, always_agreed })?);
-        logger.keep_errors()?;
+        logger::lead_errors()?;
         capabilities::give_up(&self.capabilities)?;
         system_calls::limit(self.seccomp, self.syslog)?; // new threads inherit it
-        logger.start()?;
-        core.start()?;
-        for (index, ring) in core.rings.iter().enumerate() {
-            for _ in 0..ring.threads {
-                start_thread(core.clone(), index)?;
-            }
-        }
+        logger.start().map_err(|e| no_thread("the log's thread", &e))?;
+        core.start().map_err(|e| no_thread("the session's thread", &e))?;
+        start_threads(&core)?;
         let front_end = FrontEnd::new(core.clone(), self.tag, self.scratch)?;
         let front_end = Arc::new(Mutex::new(front_end));
         let mut listener = BackendListener::new(self.listener, front_end.clone())?;
@@ -292,16 +310,51 @@ impl Serving {
     }
 }
 
-fn start_thread<F: ServedFs>(core: Arc<Core<F>>, index: usize) -> Result<(), Failure> {
+/// The message for a thread that can't start. The system gives one error for several limits.
+fn no_thread(what: &str, e: &io::Error) -> String {
+    format!(
+        "{what} can't start: {e}. Limits of threads: RLIMIT_NPROC, the cgroup's pids.max, \
+        kernel.threads-max. Of memory: RLIMIT_AS, vm.max_map_count"
+    )
+}
+
+/// Starts the threads of all queues, and returns when each is there.
+fn start_threads<F: ServedFs>(core: &Arc<Core<F>>) -> Result<(), Failure> {
+    let (ready, is_ready) = channel();
+    for (index, ring) in core.rings.iter().enumerate() {
+        for number in 1..=ring.threads {
+            let threads = ring.threads;
+            let which = || format!("thread {number} of {threads} of queue {index}");
+            start_thread(core.clone(), index, ready.clone())
+                .map_err(|e| no_thread(&which(), &e))?;
+        }
+    }
+    drop(ready);
+    for (index, result) in is_ready {
+        result.map_err(|e| format!("a thread of queue {index}: unshare(CLONE_FS): {e}"))?;
+    }
+    Ok(())
+}
+
+fn start_thread<F: ServedFs>(
+    core: Arc<Core<F>>,
+    index: usize,
+    ready: Sender<(usize, io::Result<()>)>,
+) -> io::Result<()> {
     let mut worker = QueueWorker::new(core.clone(), index);
     thread::Builder::new().name(format!("queue {index}")).spawn(move || {
         // virtiofsd changes the thread's working directory for extended attributes.
         // SAFETY: no memory is touched.
-        if unsafe { libc::unshare(libc::CLONE_FS) } != 0 {
-            error!("queue {index} isn't served: unshare(CLONE_FS): {}", io::Error::last_os_error());
-            return;
+        let result = match unsafe { libc::unshare(libc::CLONE_FS) } {
+            0 => Ok(()),
+            _ => Err(io::Error::last_os_error()),
+        };
+        let is_served = result.is_ok();
+        let _ = ready.send((index, result));
+        drop(ready);
+        if is_served {
+            core.rings[index].run(&mut worker);
         }
-        core.rings[index].run(&mut worker);
     })?;
     Ok(())
 }

@@ -8,7 +8,10 @@ import sys
 from concurrent.futures import ThreadPoolExecutor
 
 sys.dont_write_bytecode = True
-import pauses # pylint: disable=wrong-import-position
+# pylint: disable=wrong-import-position
+import ends
+import limits
+import pauses
 
 # How a row ends. A back-end that must refuse something says why. Else it serves.
 OUTCOMES = ("lost", "silent", "says why", "serves")
@@ -16,7 +19,7 @@ AT_ONCE = 4
 
 
 def rows():
-    return pauses.rows()
+    return pauses.rows() + ends.rows() + limits.rows()
 
 
 def outcome(row, program):

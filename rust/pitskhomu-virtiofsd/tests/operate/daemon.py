@@ -1,5 +1,6 @@
 """A back-end that is started for a row: this daemon, or virtiofsd."""
 import os
+import re
 import shutil
 import signal
 import subprocess
@@ -7,28 +8,34 @@ import tempfile
 import time
 
 from front import Front, Lost
+from rows import is_root
 
 PATIENCE = 20
 
 
+def sandboxes():
+    return ("namespace", "chroot", "none") if is_root() else ("namespace", "none")
+
+
 class Daemon:
     """A back-end with a folder of its own, which has the shared directory, the socket and the log.
-    Its log is a file, unless `stderr` is given."""
+    `prepare` is called before it starts."""
 
-    def __init__(self, program, *options, shared=None, socket=None, stderr=None, **more):
+    def __init__(self, program, *options, prepare=None, **more):
         self.folder = tempfile.mkdtemp(prefix="operate-")
         os.chmod(self.folder, 0o755)
-        self.shared = shared or self.folder + "/shared"
-        self.socket = socket or self.folder + "/socket"
-        if not shared:
-            os.mkdir(self.shared)
-            with open(self.shared + "/file", "w", encoding="utf-8") as file:
-                file.write("file\n")
-        self.log = self.folder + "/log"
+        self.shared, self.socket = self.folder + "/shared", self.folder + "/socket"
+        self.log, self.process = self.folder + "/log", None
+        os.mkdir(self.shared)
+        with open(self.shared + "/file", "w", encoding="utf-8") as file:
+            file.write("file\n")
+        more = {"stdin": subprocess.DEVNULL, "start_new_session": True, **more}
+        if prepare:
+            program, options = prepare(self, program, options, more)
         words = [*program, f"--socket-path={self.socket}", f"--shared-dir={self.shared}", *options]
         with open(self.log, "w", encoding="utf-8") as log:
-            self.process = subprocess.Popen(words, stdin=subprocess.DEVNULL, stdout=log,
-                stderr=log if stderr is None else stderr, start_new_session=True, **more)
+            more = {"stdout": log, "stderr": log, **more}
+            self.process = subprocess.Popen(words, **more)
 
     def __enter__(self):
         return self
@@ -81,3 +88,12 @@ class Daemon:
             return self.process.wait(patience)
         except subprocess.TimeoutExpired:
             return None
+
+
+def judged(daemon, pattern, said=None):
+    """The outcome where it should end, and its log say why: what a pattern finds."""
+    status = daemon.ended(5)
+    if status is None:
+        return "serves", "it doesn't end"
+    said = (said or daemon.said)()
+    return "says why" if re.search(pattern, said) else "silent", f"status {status}: {said}"

@@ -11,12 +11,11 @@ import threading
 import time
 from functools import partial
 
-from daemon import Daemon
+from daemon import Daemon, sandboxes
 from front import GETATTR, OPEN, QUEUE, ROOT, Lost
-from rows import Row, is_root
+from rows import Row
 
 GET_VRING_BASE = 11
-SANDBOXES = ("namespace", "chroot", "none")
 A_WHILE = 0.06
 TIMES = 3
 PTRACE_ATTACH, PTRACE_DETACH, WALL = 16, 17, 0x40000000
@@ -189,7 +188,7 @@ def paused(daemon, pause, state):
 def pauses(program, pause, state):
     if pause is freeze and not unified():
         return "skipped", "no group of cgroup v2 can be made here"
-    for sandbox in SANDBOXES if is_root() else ("namespace", "none"):
+    for sandbox in sandboxes():
         options = f"--sandbox={sandbox}", "--thread-pool-size=4", "--log-level=warn"
         with Daemon(program, *options) as daemon:
             try:
