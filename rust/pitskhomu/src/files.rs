@@ -5,6 +5,7 @@
 use crate::data::{at_most, ReadData, WriteData};
 use crate::memory::{GuestMemory, Window};
 use crate::slice::GuestSlice;
+use alloc::vec::Vec;
 use core::marker::PhantomData;
 use std::fs::File;
 use std::io::{self, ErrorKind};
@@ -14,8 +15,9 @@ use std::os::unix::io::AsRawFd;
 
 /// The most windows of one system call.
 const WINDOWS: usize = 64;
-/// The bytes that the data of an owned request is read by.
-const BUFFER: usize = 4096;
+/// The most bytes that one system call reads for an owned request: Linux's longest READ. A guest
+/// that asks for more of a short file has no more memory allocated.
+const BUFFER: usize = 1 << 20;
 
 /// struct iovec of sys/uio.h.
 #[repr(C)]
@@ -30,12 +32,44 @@ extern "C" {
     fn pwritev(fd: c_int, pieces: *const Piece, count: c_int, offset: i64) -> isize;
 }
 
+/// A system call on a file, `preadv` or `pwritev`, with pieces of memory.
+///
+/// # Safety
+/// The pieces are valid for the call's reads or writes.
+unsafe fn move_bytes(
+    call: unsafe extern "C" fn(c_int, *const Piece, c_int, i64) -> isize,
+    pieces: &[Piece],
+    file: &File,
+    offset: u64,
+) -> io::Result<u64> {
+    // `EINVAL`, as of an offset, or of so many pieces, that the system doesn't have.
+    let (offset, count) = match (i64::try_from(offset), c_int::try_from(pieces.len())) {
+        (Ok(offset), Ok(count)) => (offset, count),
+        _ => return Err(io::Error::from_raw_os_error(22)),
+    };
+    // SAFETY: there are `count` pieces, which the caller has found to be valid. The call keeps no
+    // pointer.
+    let moved = unsafe { call(file.as_raw_fd(), pieces.as_ptr(), count, offset) };
+    u64::try_from(moved).map_err(|_| io::Error::last_os_error())
+}
+
+/// Reads `len` bytes of a file into a buffer, behind its own. Returns how many there were.
+fn read_behind(buffer: &mut Vec<u8>, len: usize, file: &File, offset: u64) -> io::Result<u64> {
+    buffer.try_reserve(len).map_err(|_| io::Error::from_raw_os_error(12))?; // `ENOMEM`
+    let piece = Piece { at: buffer.spare_capacity_mut().as_mut_ptr().cast(), len };
+    // SAFETY: the buffer has so many spare bytes, which the call may write.
+    let moved = unsafe { move_bytes(preadv, &[piece], file, offset) }?;
+    // SAFETY: the system has written the first `moved` of them.
+    unsafe { buffer.set_len(buffer.len() + at_most(moved, len)) };
+    Ok(moved)
+}
+
 /// The bytes of windows, as a system call takes them. They end at the first window that the memory
 /// doesn't have.
 struct Pieces<'m> {
     list: [Piece; WINDOWS],
     /// How many of the list they are.
-    count: c_int,
+    count: usize,
     len: u64,
     memory: PhantomData<GuestSlice<'m>>,
 }
@@ -64,16 +98,13 @@ impl<'m> Pieces<'m> {
         file: &File,
         offset: u64,
     ) -> io::Result<u64> {
-        // `EINVAL`, as of an offset that the system doesn't have.
-        let offset = i64::try_from(offset).map_err(|_| io::Error::from_raw_os_error(22))?;
         if self.count == 0 {
             return Err(io::Error::from_raw_os_error(14)); // `EFAULT`: the memory lacks them
         }
         // SAFETY: each piece is a slice of the memory, which `self` borrows: by the contract of
         // `GuestSlice` its bytes are mapped, may be read and written, and are accessed by atomic or
-        // volatile operations alone. There are `count` of them, and the call keeps no pointer.
-        let moved = unsafe { call(file.as_raw_fd(), self.list.as_ptr(), self.count, offset) };
-        u64::try_from(moved).map_err(|_| io::Error::last_os_error())
+        // volatile operations alone.
+        unsafe { move_bytes(call, &self.list[..self.count], file, offset) }
     }
 }
 
@@ -127,11 +158,9 @@ impl ReadData<'_> {
                 self.advance(moved);
                 return Ok((moved, pieces.len));
             }
-            let mut buffer = [0; BUFFER];
             let len = at_most(wanted, BUFFER);
-            let moved = file.read_at(&mut buffer[..len], from)?;
-            self.put(&buffer[..moved]);
-            Ok((moved as u64, len as u64))
+            let moved = self.fill(|buffer| read_behind(buffer, len, file, from))?;
+            Ok((moved, len as u64))
         })
     }
 }

@@ -4,6 +4,7 @@ mod guest;
 
 use guest::*;
 use pitskhomu::*;
+use std::cell::RefCell;
 use std::fs::{self, File, OpenOptions};
 use std::io::Write as _;
 use std::path::PathBuf;
@@ -100,6 +101,70 @@ fn a_read_is_of_the_file() {
             let data_marks =
                 guest.memory.marks.take().into_iter().filter(|range| range.guest > ROOM);
             assert_eq!(data_marks.map(|range| range.len).sum::<u64>(), len as u64, "{way:?}");
+        }
+    }
+}
+
+/// How often this thread has read so far; `None` if the system doesn't count that.
+fn reads() -> Option<u64> {
+    let counts = fs::read_to_string("/proc/thread-self/io").ok()?;
+    counts.lines().find_map(|line| line.strip_prefix("syscr: "))?.parse().ok()
+}
+
+/// Counts the system calls of each READ.
+struct Counting<'f>(Files<'f>, RefCell<Vec<u64>>);
+
+impl FileSystem for Counting<'_> {
+    fn lookup(&self, context: &Context, node: Node, name: &CStr) -> Answer<Entry> {
+        self.0.lookup(context, node, name)
+    }
+    fn getattr(
+        &self,
+        context: &Context,
+        node: Node,
+        handle: Option<Handle>,
+    ) -> Answer<(Attributes, Duration)> {
+        self.0.getattr(context, node, handle)
+    }
+    fn read(
+        &self,
+        context: &Context,
+        node: Node,
+        read: ReadFile,
+        data: &mut ReadData<'_>,
+    ) -> Answer<()> {
+        let (first, before) = (reads(), reads());
+        self.0.read(context, node, read, data)?;
+        if let (Some(first), Some(before), Some(after)) = (first, before, reads()) {
+            self.1.borrow_mut().push(after - before - (before - first));
+        }
+        Ok(())
+    }
+}
+
+/// The data of an answer that may come later is read by 1 MiB, the longest READ of Linux. Up to the
+/// file's end, and of more bytes than one call reads.
+#[test]
+fn a_long_read_is_one_system_call() {
+    const LONG: u32 = 1 << 20;
+    let bytes = pattern(LONG as usize + 70_000);
+    let file = Temporary::new("long", &bytes);
+    for way in WAYS {
+        let counting = Counting(Files(&file.1), RefCell::default());
+        for (offset, size, calls) in
+            [(7, LONG, 1), (7, 300_000, 1), (100_000, LONG, 1), (3, LONG + 60_000, 2)]
+        {
+            let device = Device::new(4096, 2 * Device::MIN_LIMIT).unwrap();
+            let mut guest = Guest::over(device);
+            guest.way = way;
+            guest.offer_request(&read_args(offset, size), 16 + size);
+            let data = guest.serve(&counting).1.data();
+            let from = offset as usize;
+            let end = bytes.len().min(from + size as usize);
+            assert!(data == bytes[from..end], "{way:?} {offset} {size}");
+            let most = if way == Way::Owned { calls } else { 1 }; // in place
+            let counted = counting.1.take();
+            assert!(counted.iter().all(|&count| count <= most), "{way:?} {size}: {counted:?}");
         }
     }
 }
