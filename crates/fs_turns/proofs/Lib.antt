@@ -1,0 +1,3 @@
+pub mod Reporting
+pub mod Runs
+pub mod Tracks

@@ -1,0 +1,8 @@
+use Rattle.fs_turns.proofs.Runs.{no_turn_is_lost, no_interrupt_is_lost}
+use Rattle.fs_turns.proofs.law_no_turn_is_lost.Goals as goal
+
+pub returns : goal.returns
+returns c = record {
+  none_lost = no_turn_is_lost c.law_no_lost_notification.ensures.none_lost_among_threads;
+  none_forgotten = no_interrupt_is_lost;
+}

@@ -1,0 +1,25 @@
+//! What a thread of a queue does next: a machine without input and output, which lies under the
+//! queue's lock. A thread says what happened, gets one action, performs it, and says what happened.
+//!
+//! Threads that do so are a run of the model of notifications (crate `notify`), for any order in which
+//! they get the lock, and any driver that keeps VIRTIO 1.2: `law_no_turn_is_lost`.
+#![tactic(auto)]
+
+ghost use Rattle.fs_turns.specs.Worlds.{NoTurnIsLost, NoInterruptIsLost};
+
+mod machine;
+
+pub use machine::{Notifications, Seen, TurnAction, TurnEvent, TurnOrders, TurnPhase, Turns};
+use notify::law_no_lost_notification;
+
+/// Any number of threads that do what [`Turns::next`] returns and report what they did, beside any
+/// driver that keeps VIRTIO 1.2 (2.7.13, 2.7.14), with `VIRTIO_F_EVENT_IDX` or without, are a run of
+/// the model of notifications. So while a thread sleeps and no thread is going to look, no chain is
+/// available that the driver has checked, and no chain waits whose answer came later. While a push wants
+/// an interrupt, a thread has yet to make one, or holds the lock.
+pub fn law_no_turn_is_lost()
+    ensures none_lost { NoTurnIsLost }
+    ensures none_forgotten { NoInterruptIsLost }
+{
+    law_no_lost_notification();
+}
