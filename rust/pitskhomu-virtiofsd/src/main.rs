@@ -13,6 +13,7 @@ mod migration;
 mod notifier;
 mod open_flags;
 mod options;
+mod paths;
 mod ring;
 mod serve;
 mod socket;

@@ -1,5 +1,6 @@
 //! The socket that the front-end connects to, and the PID file next to it.
 use crate::options::Options;
+use crate::paths::check_folder;
 use std::ffi::CString;
 use std::fs::{self, File, OpenOptions};
 use std::io::{self, Write};
@@ -106,16 +107,15 @@ impl Socket {
 
     fn made(path: &Path, group: Option<&str>) -> Result<(UnixListener, Option<File>), String> {
         let folder = path.parent().ok_or("Invalid socket file name")?;
-        if !folder.as_os_str().is_empty() && !folder.is_dir() {
-            return Err(format!("{} does not exist or is not a directory", folder.display()));
-        }
+        check_folder(folder)?;
         let mut number_path = path.as_os_str().to_owned();
         number_path.push(".pid");
         let number_path = PathBuf::from(number_path);
         let number = number_file(&number_path)
             .map_err(|e| format!("Error creating pid file '{}': {e}", number_path.display()))?;
         let group = group.map(group_number).transpose()?;
-        let listener = bind(path, group).map_err(|e| format!("Error creating listener: {e}"))?;
+        let listener = bind(path, group)
+            .map_err(|e| format!("Error creating listener: {}: {e}", path.display()))?;
         Ok((listener, Some(number)))
     }
 }

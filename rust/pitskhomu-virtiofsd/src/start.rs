@@ -6,6 +6,7 @@ use crate::iommu;
 use crate::logger::{self, Logger};
 use crate::open_flags::OpenFlags;
 use crate::options::Options;
+use crate::paths;
 use crate::serve::{Core, Parts, QueueWorker, ServedFs};
 use crate::socket::Socket;
 use crate::state;
@@ -15,7 +16,6 @@ use std::error::Error;
 use std::fs::{self, File};
 use std::io;
 use std::os::fd::{AsFd, AsRawFd};
-use std::path::Path;
 use std::sync::mpsc::{channel, Sender};
 use std::sync::{Arc, Mutex, PoisonError};
 use std::thread;
@@ -58,16 +58,23 @@ extern "C" fn end_for_lost_memory(_signal: libc::c_int) {
 
 /// The daemon is the first process of its namespace, so without a handler it wouldn't receive
 /// SIGHUP, SIGINT and SIGTERM. SIGXFSZ is ignored, so that a write past `RLIMIT_FSIZE` is answered
-/// EFBIG.
+/// EFBIG. The process that started the daemon may have signals blocked, and SIGCHLD ignored: then
+/// the parent of the namespace would get no status of its child.
 fn handle_signals() {
     let end = end as *const () as libc::sighandler_t;
     let lost = end_for_lost_memory as *const () as libc::sighandler_t;
     let ended = [libc::SIGHUP, libc::SIGINT, libc::SIGTERM].map(|signal| (signal, end));
-    for (signal, handler) in
-        ended.into_iter().chain([(libc::SIGBUS, lost), (libc::SIGXFSZ, libc::SIG_IGN)])
-    {
+    let others =
+        [(libc::SIGBUS, lost), (libc::SIGXFSZ, libc::SIG_IGN), (libc::SIGCHLD, libc::SIG_DFL)];
+    for (signal, handler) in ended.into_iter().chain(others) {
         // SAFETY: the handlers call only functions that a signal handler may call.
         unsafe { libc::signal(signal, handler) };
+    }
+    let mut none = std::mem::MaybeUninit::uninit();
+    // SAFETY: the set is initialized by the first call, and the second one only reads it.
+    unsafe {
+        libc::sigemptyset(none.as_mut_ptr());
+        libc::sigprocmask(libc::SIG_SETMASK, none.as_ptr(), std::ptr::null_mut());
     }
 }
 
@@ -204,9 +211,7 @@ pub fn run(mut options: Options, logger: &Logger) -> Result<(), Failure> {
     log_build();
     let shared_dir =
         options.shared_dir.take().ok_or("missing \"--shared-dir\" or \"-o source\" option")?;
-    if !Path::new(&shared_dir).is_dir() && !Path::new(&shared_dir).is_file() {
-        return Err(format!("{shared_dir} does not exist").into());
-    }
+    paths::check_shared(&shared_dir, options.sandbox)?;
     options.warnings().iter().for_each(|warning| warn!("{warning}"));
     if let Some((last, before)) = options.contradictions().split_last() {
         for why in before {
@@ -219,13 +224,13 @@ pub fn run(mut options: Options, logger: &Logger) -> Result<(), Failure> {
     let guest_descriptors = guest_descriptors(&options)?;
     let (uid_map, gid_map) =
         (std::mem::take(&mut options.uid_map), std::mem::take(&mut options.gid_map));
-    let sandboxed = Sandbox::new(shared_dir, options.sandbox, uid_map, gid_map);
+    let sandboxed = Sandbox::new(shared_dir.clone(), options.sandbox, uid_map, gid_map);
     let mut sandbox = sandboxed.map_err(|e| format!("Error creating sandbox: {e}"))?;
     let scratch = state::scratch()?;
     let Socket { listener, number: _number } = Socket::open(&options)?;
     let listener = sandbox
         .enter(listener)
-        .map_err(|e| format!("Error entering sandbox: {}", sandbox_error(e)))?;
+        .map_err(|e| format!("Error entering sandbox: {shared_dir}: {}", sandbox_error(e)))?;
     fd_table::widen(scratch.as_fd()); // after the sandbox's fork, and before other threads
 
     let proc_self_fd = sandbox.get_proc_self_fd();

@@ -3,27 +3,25 @@
 a command that runs virtiofsd each row is tried on virtiofsd too, and the daemon must do as well or
 better. Ends with 1 if a row fails. By the environment: ROWS, a part of the names of rows to try."""
 import os
+import shutil
 import signal
 import sys
+import time
 from concurrent.futures import ThreadPoolExecutor
 
 sys.dont_write_bytecode = True
 # pylint: disable=wrong-import-position
 import ends
 import limits
+import logs
+import paths
 import pauses
 
-# How a row ends. A back-end that must refuse something says why. Else it serves.
-OUTCOMES = ("lost", "silent", "says why", "serves")
 AT_ONCE = 4
 
 
-def rows():
-    return pauses.rows() + ends.rows() + limits.rows()
-
-
-def outcome(row, program):
-    """The outcome of a row, and words for it."""
+def ended(row, program):
+    """How a row ends, and words for it."""
     try:
         return row.run(program)
     except Exception as why: # pylint: disable=broad-except
@@ -31,32 +29,38 @@ def outcome(row, program):
 
 
 def tried(row, programs):
-    return row, [outcome(row, program) for program in programs]
+    before = time.monotonic()
+    return row, [ended(row, program) for program in programs], time.monotonic() - before
+
+
+def report(row, ours, theirs, seconds):
+    """Prints a row, and returns whether it passed."""
+    is_good = ours[0] == row.wanted and all(row.is_as_good(ours[0], other[0]) for other in theirs)
+    beside = "".join(f"; virtiofsd: {other[0]}" for other in theirs)
+    print(f"{'' if is_good else 'FAILED: '}{row.name}: {ours[0]}{beside} ({seconds:.1f} s)")
+    for who, (outcome, words) in zip(("", "virtiofsd: "), (ours, *theirs)):
+        if words and (not is_good or outcome != row.wanted):
+            print(f"    {who}{words}")
+    return is_good
 
 
 def main():
     signal.signal(signal.SIGIO, lambda *_: None) # of leases
-    programs = [[sys.argv[1]]] + ([sys.argv[2:]] if sys.argv[2:] else [])
-    wanted = [row for row in rows() if os.environ.get("ROWS", "") in row.name]
-    failed = skipped = 0
+    programs = [[shutil.which(words[0]), *words[1:]] for words in (sys.argv[1:2], sys.argv[2:])
+        if words]
+    rows = [row for part in (pauses, ends, limits, logs, paths) for row in part.rows()
+        if os.environ.get("ROWS", "") in row.name]
+    passed = failed = 0
     with ThreadPoolExecutor(AT_ONCE) as threads:
-        for row, (ours, *theirs) in threads.map(lambda row: tried(row, programs), wanted):
+        for row, (ours, *theirs), seconds in threads.map(lambda row: tried(row, programs), rows):
             if ours[0] == "skipped":
-                skipped += 1
                 print(f"operate: not tried: {row.name}: {ours[1]}")
-                continue
-            rank = OUTCOMES.index(ours[0])
-            of_virtiofsd = theirs[0] if theirs else None
-            is_good = ours[0] == row.wanted and (not of_virtiofsd
-                or rank >= OUTCOMES.index(of_virtiofsd[0]))
-            failed += not is_good
-            beside = f"; virtiofsd {of_virtiofsd[0]}" if of_virtiofsd else ""
-            print(f"{'' if is_good else 'FAILED: '}{row.name}: {ours[0]}{beside}")
-            for who, (_, words) in zip(("", "virtiofsd "), (ours, *theirs)):
-                if words and (who or not is_good):
-                    print(f"    {who}{words}")
-    print(f"operate: {len(wanted) - failed - skipped} rows passed, {failed} failed")
-    sys.exit(bool(failed))
+            elif report(row, ours, theirs, seconds):
+                passed += 1
+            else:
+                failed += 1
+    print(f"operate: {passed} rows passed, {failed} failed")
+    sys.exit(bool(failed or not passed))
 
 
 main()

@@ -38,11 +38,9 @@ class Lost(Exception):
 class Front:
     """A connected front-end, whose ring runs."""
 
-    def __init__(self, path, patience=20):
-        self.patience = patience
-        self.socket = socket.socket(socket.AF_UNIX)
+    def __init__(self, connected, patience):
+        self.patience, self.socket = patience, connected
         self.socket.settimeout(patience)
-        self.socket.connect(path)
         self.file = os.memfd_create("guest")
         os.ftruncate(self.file, LENGTH)
         self.memory = mmap.mmap(self.file, LENGTH)

@@ -1,17 +1,30 @@
-"""A row: one thing that an operator does."""
+"""A row: one thing that an operator does, and how it ends."""
 import os
 from dataclasses import dataclass
 from typing import Callable
 
+# How a row ends, the worst first, by what is wanted. Where nothing is served, or the daemon has to
+# end, its log says why.
+RANKS = {
+    "serves": ("lost", "silent", "says why", "serves"),
+    "says why": ("lost", "serves", "silent", "says why"),
+    "ends": ("lost", "serves", "silent", "says why", "ends"),
+}
+
 
 @dataclass
 class Row:
-    """Its name; a function of a program, which returns an outcome of `OUTCOMES` ("skipped" where
-    this machine can't try it) and words for it; and the daemon's outcome."""
+    """Its name; a function of a program, which returns how the row ends ("skipped" where this
+    machine can't try it) and words for it; and how it must end for the daemon."""
 
     name: str
     run: Callable
     wanted: str = "serves"
+
+    def is_as_good(self, ours, theirs):
+        """Whether the daemon does as well as virtiofsd, or better."""
+        ranks = RANKS[self.wanted]
+        return theirs == "skipped" or ranks.index(ours) >= ranks.index(theirs)
 
 
 def is_root():
