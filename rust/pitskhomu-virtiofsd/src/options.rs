@@ -32,125 +32,298 @@ use virtiofsd::soft_idmap::cmdline::IdMap;
 #[allow(clippy::struct_field_names, reason = "`options` is clap's word for -o")]
 #[allow(clippy::doc_markdown, rustdoc::broken_intra_doc_links, reason = "--help prints them")]
 pub struct Options {
-    /// The directory that the guest is to see
+    /// The directory that the guest sees
+    ///
+    /// A file can be shared, too. The directory must exist before the daemon starts.
     #[arg(long, required_unless_present_any = ["compat_options", "print_capabilities"])]
     pub shared_dir: Option<String>,
     /// The same as --socket-path [deprecated]
     #[arg(long, required_unless_present_any = ["fd", "socket_path", "print_capabilities"])]
     pub socket: Option<PathBuf>,
-    /// Where the front-end (QEMU) connects to; an old one is replaced
+    /// The path of the socket that the front-end (QEMU) connects to
+    ///
+    /// The daemon makes the socket, and replaces an old one. It serves one front-end, and ends with
+    /// it. SOCKET_PATH.pid has the daemon's process number, and stays locked while it runs.
     #[arg(long, required_unless_present_any = ["fd", "socket", "print_capabilities"])]
     pub socket_path: Option<PathBuf>,
-    /// The group that may connect to the socket, besides its owner
+    /// The group whose users may connect to the socket, besides its owner
+    ///
+    /// The socket then has mode 0660 in place of 0700. A QEMU of another user also needs search
+    /// permission for the socket's directory.
     #[arg(long, conflicts_with_all = ["fd", "print_capabilities"])]
     pub socket_group: Option<String>,
-    /// An open socket that listens already, by its number
+    /// The number of an open socket that listens already
+    ///
+    /// The process that starts the daemon passes it, in place of --socket-path.
     #[arg(
         long,
         required_unless_present_any = ["socket", "socket_path", "print_capabilities"],
         conflicts_with_all = ["socket_path", "socket"]
     )]
     pub fd: Option<RawFd>,
-    /// The tag that front-ends may ask for (QEMU has its own option for it)
+    /// The tag that front-ends may ask for
+    ///
+    /// A tag has 1 to 36 bytes of UTF-8. Only with this option the daemon offers
+    /// VHOST_USER_PROTOCOL_F_CONFIG. QEMU has an option of its own for the tag and ignores this
+    /// one; QEMU 7.1 to 8.0 crash when a daemon offers that feature.
     #[arg(long, value_parser = tag)]
     pub tag: Option<String>,
-    /// Request queues, 1 to 63; QEMU's `num-request-queues` is at most that
+    /// The number of request queues, 1 to 63
+    ///
+    /// Each has threads of its own. QEMU's device uses as many as its property num-request-queues
+    /// says, which may not be more.
     #[arg(long, default_value_t = 1, value_parser = clap::value_parser!(u8).range(1..=63))]
     pub num_request_queues: u8,
-    /// Threads of each request queue, which serve a chain each; 0 for one, and no more
+    /// The number of threads for each request queue, at most 1024
+    ///
+    /// A thread serves one request at a time. So with one thread a slow request (a lease, a dead
+    /// NFS server) delays the later requests of its queue. 0 means one thread, as 1 does.
     #[arg(long, default_value_t = 0, value_parser = clap::value_parser!(u16).range(0..=1024))]
     pub thread_pool_size: u16,
-    /// How the daemon is held in the directory: namespace, chroot, none
+    /// How the daemon is confined to the shared directory: namespace, chroot, none
+    ///
+    /// - namespace: The directory is the root of a mount namespace. The daemon has a process and a
+    ///   network namespace of its own. A user other than root gets a user namespace, too.
+    ///
+    /// - chroot: The directory is the root of the process. This needs root.
+    ///
+    /// - none: The daemon isn't confined. Paths of the guest are still resolved below the
+    ///   directory.
     #[arg(long, default_value = "namespace")]
     pub sandbox: SandboxMode,
-    /// What becomes of other system calls than the daemon needs: none, kill, log, trap
+    /// What happens at a system call that the daemon doesn't need: none, kill, log, trap
+    ///
+    /// - kill: The daemon is killed.
+    ///
+    /// - trap: The daemon gets SIGSYS, which a debugger can catch.
+    ///
+    /// - log: The call is made, and the kernel's audit log has a line.
+    ///
+    /// - none: There is no filter.
     #[arg(long, default_value = "kill")]
     pub seccomp: Seccomp,
-    /// Capabilities kept or given up, as in --modcaps=+sys_admin:-chown
+    /// Capabilities that root's daemon keeps (+) or drops (-), such as +sys_admin:-chown
+    ///
+    /// By default it keeps chown, dac_override, fowner, fsetid, mknod, setfcap, setgid and setuid,
+    /// and with file handles dac_read_search. -mknod forbids device nodes to the guest. +sys_admin
+    /// allows trusted.* and security.* attributes.
     #[arg(long)]
     pub modcaps: Option<String>,
-    /// How many descriptors may be open; 0 leaves the limit as it is [default: min(1000000,
-    /// '/proc/sys/fs/nr_open')]
+    /// The number of descriptors that may be open [default: min(1000000, '/proc/sys/fs/nr_open')]
+    ///
+    /// 0 keeps the limit of the process that starts the daemon. Each file that the guest holds
+    /// takes one, unless --inode-file-handles says otherwise. When all are taken, the guest gets
+    /// ENFILE.
     #[arg(long)]
     pub rlimit_nofile: Option<u64>,
-    /// What the guest may keep: auto, always, metadata, never
+    /// What the guest may keep of files: auto, always, metadata, never
+    ///
+    /// - never: Nothing. Each access asks the daemon, so the guest sees a change of the host at
+    ///   once. Listings come without attributes. Files can't be mapped shared, but see
+    ///   --allow-mmap.
+    ///
+    /// - metadata: Names, attributes and listings for a day, but no file data. Files can't be
+    ///   mapped shared, but see --allow-mmap.
+    ///
+    /// - auto: Names and attributes for a second, and file data until the file is opened again
+    ///   (close-to-open consistency, as NFS has it).
+    ///
+    /// - always: Names, attributes and listings for a day, and file data also after the file is
+    ///   opened again.
+    ///
+    /// With `metadata` and `always` the guest doesn't see for a day what others change. Use these
+    /// only if nobody else changes the directory.
     #[arg(long, default_value = "auto")]
     pub cache: CachePolicy,
-    /// Writes may stay in the guest for a while
+    /// The guest may delay writes, and join small ones
+    ///
+    /// The host sees data later, and the guest decides sizes and times of change. Use it only if
+    /// nobody else changes the directory. Files that are opened only for writing are opened for
+    /// reading, too, since the guest reads a page before it changes a part.
     #[arg(long)]
     pub writeback: bool,
-    /// The guest changes nothing
+    /// The guest can't change anything
+    ///
+    /// Each request that would change a file, or open one for writing, fails with EROFS.
     #[arg(long)]
     pub readonly: bool,
-    /// O_DIRECT of the guest holds for the host too
+    /// O_DIRECT of the guest applies on the host, too
+    ///
+    /// Otherwise the host's page cache is used. The guest's program must then align its buffers as
+    /// the host's file system needs it.
     #[arg(long)]
     pub allow_direct_io: bool,
-    /// Files may be mapped although --cache is metadata or never
+    /// The guest can map files shared, also with --cache metadata or never
+    ///
+    /// A mapped page stays in the guest while it is mapped. Use it only if nobody else changes the
+    /// files. The guest's kernel must be 6.6 or later.
     #[arg(long)]
     pub allow_mmap: bool,
-    /// Mount points below the directory are told to the guest (the default)
+    /// The guest sees mounts below the directory as mounts of its own [default]
+    ///
+    /// Then files of two mounts with the same inode number are told apart.
     #[arg(long, overrides_with = "no_announce_submounts")]
     pub announce_submounts: bool,
-    /// They aren't told
+    /// The guest sees mounts below the directory as directories
     #[arg(long)]
     pub no_announce_submounts: bool,
-    /// Extended attributes
+    /// The guest can use extended attributes
+    ///
+    /// Their names are the same on the host, unless --xattrmap has rules. Which of them the daemon
+    /// may set depends on its capabilities: see --modcaps.
     #[arg(long)]
     pub xattr: bool,
-    /// Rules for names of extended attributes, as :map::user.virtiofs.:; implies --xattr
+    /// Rules for names of extended attributes, such as :map::user.virtiofs.:; implies --xattr
+    ///
+    /// A rule is :TYPE:SCOPE:KEY:PREPEND: or :map:KEY:PREPEND: with any separator in place of `:`.
+    /// White space may stand between rules.
+    ///
+    /// The first rule that matches a name applies, and each name must have one. A rule of scope
+    /// `client` matches names that the guest uses (SETXATTR, GETXATTR, REMOVEXATTR) and that begin
+    /// with KEY. One of scope `server` matches names of the host in a list (LISTXATTR) that begin
+    /// with PREPEND. Scope `all` is both. An empty KEY or PREPEND matches each name. The types:
+    ///
+    /// - prefix: PREPEND is put before the guest's name, and removed from the host's.
+    ///
+    /// - ok: The name is the same on both sides.
+    ///
+    /// - bad: The guest's use of the name fails with EPERM. The host's name isn't listed.
+    ///
+    /// - unsupported: The guest's use of the name fails with ENOTSUP. The host's name isn't listed.
+    ///
+    /// `map` is short for the usual rules, and must be the last rule. With an empty KEY all names
+    /// get the prefix, and the guest sees no others: `:prefix:all::PREPEND: :bad:all:::`. With a
+    /// KEY these names get the prefix, the guest can't use it itself, and other names stay as they
+    /// are: `:prefix:all:KEY:PREPEND: :bad:server::KEY: :bad:client:PREPEND:: :ok:all:::`.
+    ///
+    /// The kernel reserves trusted.* and security.* for root, and gives user.* to each file's
+    /// owner. With a prefix for some names only, see that no user of the guest reaches reserved
+    /// names by others. A prefix for all names is safe.
     #[arg(long, value_parser = xattr_map)]
     pub xattrmap: Option<XattrMap>,
-    /// POSIX access control lists; implies --xattr. The guest's kernel must support them
+    /// The guest has POSIX access control lists; implies --xattr
+    ///
+    /// The guest's kernel must support them, or it can't mount. The lists are attributes of the
+    /// host's files (system.posix_acl_*), and the guest's kernel applies them.
     #[arg(long)]
     pub posix_acl: bool,
-    /// A new file gets the security label that the guest sends with it, as SELinux does; implies
-    /// --xattr. The guest's kernel must support it
+    /// A new file gets the security label that the guest sends with it; implies --xattr
+    ///
+    /// So a guest with SELinux labels a file when it is made, and not afterwards. The guest's
+    /// kernel must support it, or it can't mount. To set security.selinux, --modcaps=+sys_admin or
+    /// a rule of --xattrmap is needed.
     #[arg(long)]
     pub security_label: bool,
-    /// The host, not the guest, clears set-user-ID and set-group-ID
+    /// The host clears set-user-ID and set-group-ID bits when a file is written, truncated or
+    /// given away
+    ///
+    /// The guest then needn't ask before each write whether there are such bits, or capabilities.
     #[arg(long, overrides_with = "no_killpriv_v2")]
     pub killpriv_v2: bool,
-    /// The guest clears them (the default)
+    /// The guest clears these bits itself [default]
     #[arg(long)]
     pub no_killpriv_v2: bool,
     /// Listings come without attributes
+    ///
+    /// A program that looks at each file of a directory then needs a request for each. One that
+    /// needs only names gets them sooner, and the daemon keeps no descriptor for each file.
     #[arg(long)]
     pub no_readdirplus: bool,
-    /// O_NOATIME of the guest holds for the host too
+    /// O_NOATIME of the guest applies on the host, too
+    ///
+    /// The host allows it only to a file's owner, or with CAP_FOWNER. Otherwise the open fails with
+    /// EPERM. Without this option the flag is dropped.
     #[arg(long)]
     pub preserve_noatime: bool,
-    /// When inodes are held by handles rather than by open descriptors: never, prefer (where the
-    /// host's file system has handles; "fallback" is the same, deprecated), mandatory
+    /// When the daemon keeps a file handle of an inode, not a descriptor: never, prefer, mandatory
+    ///
+    /// A handle is a name of the host's file system for an inode (name_to_handle_at). With handles
+    /// the daemon has descriptors only of files that the guest has opened. So --rlimit-nofile
+    /// doesn't limit how many the guest knows, and a removed file of NFS isn't kept as .nfsXXXX.
+    /// Each access opens the inode again, which takes some time.
+    ///
+    /// - never: Each inode has a descriptor.
+    ///
+    /// - prefer: An inode has a handle, or a descriptor where the file system has no handles, as
+    ///   some of several below the directory ("fallback" is the same [deprecated]).
+    ///
+    /// - mandatory: Each inode has a handle. Where there are none, the guest's request fails.
+    ///
+    /// `prefer` and `mandatory` keep the capability dac_read_search, which opens handles.
     #[arg(long, require_equals = true, default_value = "never")]
     pub inode_file_handles: Handles,
-    /// Users of the namespace, as `:inside:outside:count:` (not as root)
+    /// Users of the sandbox's namespace, as :INSIDE:OUTSIDE:COUNT:
+    ///
+    /// COUNT users of the host from OUTSIDE on are users INSIDE and so on, for a daemon that a user
+    /// other than root starts with --sandbox namespace. So :0:100000:65536: makes 100000 root, and
+    /// 165535 user 65535. Several ranges need newuidmap, and can be given by several options. The
+    /// kernel maps these; --translate-uid needs no namespace.
     #[arg(long)]
     pub uid_map: Vec<UidMap>,
-    /// Groups of the namespace, as `:inside:outside:count:` (not as root)
+    /// Groups of the sandbox's namespace, as --uid-map has users
     #[arg(long)]
     pub gid_map: Vec<GidMap>,
-    /// Users of the guest that are others on the host, as TYPE:FIRST:FIRST:COUNT:
-    /// guest:GUEST:HOST:COUNT (in this direction alone), host:HOST:GUEST:COUNT,
-    /// squash-guest:GUEST:HOST:COUNT (all to one), squash-host:HOST:GUEST:COUNT,
-    /// forbid-guest:GUEST:COUNT, map:GUEST:HOST:COUNT (both ways). May be given several times
+    /// Users of the guest that are other users on the host, as TYPE:FIRST:FIRST:COUNT
+    ///
+    /// - guest:GUEST:HOST:COUNT: COUNT users of the guest from GUEST on are the host's from HOST
+    ///   on. This holds for users that the guest names (a new file's owner, chown).
+    ///
+    /// - host:HOST:GUEST:COUNT: The reverse, for owners of files that the guest sees.
+    ///
+    /// - map:GUEST:HOST:COUNT: Both.
+    ///
+    /// - squash-guest:GUEST:HOST:COUNT: COUNT users of the guest are all the host's user HOST.
+    ///
+    /// - squash-host:HOST:GUEST:COUNT: COUNT users of the host are all the guest's user GUEST.
+    ///
+    /// - forbid-guest:GUEST:COUNT: A request that names one of these users fails.
+    ///
+    /// Other users are the same on both sides. Several ranges can be given by several options. The
+    /// daemon maps these, not the kernel. Access control lists contain users, too, so this option
+    /// excludes --posix-acl.
     #[arg(long, conflicts_with = "posix_acl")]
     pub translate_uid: Vec<IdMap>,
-    /// Groups of the guest that are others on the host, as --translate-uid has users
+    /// Groups of the guest that are other groups on the host, as --translate-uid has users
     #[arg(long, conflicts_with = "posix_acl")]
     pub translate_gid: Vec<IdMap>,
-    /// How inodes are named to the other host: find-paths, file-handles
+    /// How a state names inodes to the other host: find-paths, file-handles
+    ///
+    /// - find-paths: By paths in the directory. The source takes them from /proc/self/fd, and looks
+    ///   through the whole directory for those that aren't there. The target needs files with the
+    ///   same paths.
+    ///
+    /// - file-handles: By file handles. Both hosts need the same file system, such as one of NFS,
+    ///   and the target --modcaps=+dac_read_search. A removed file that is open moves, too.
+    ///
+    /// The source's option counts, and the target takes both.
     #[arg(long, default_value = "find-paths")]
     pub migration_mode: MigrationMode,
-    /// What becomes of an inode that isn't found: abort, guest-error
+    /// What happens with an inode that isn't found: abort, guest-error
+    ///
+    /// - abort: The migration fails, and the guest continues at the source.
+    ///
+    /// - guest-error: The guest moves, and its requests for that inode fail.
+    ///
+    /// The target's option counts.
     #[arg(long, default_value = "abort")]
     pub migration_on_error: MigrationOnError,
-    /// The other host sees that it has the same inodes
+    /// The source sends a file handle with each path, which the target compares
+    ///
+    /// So a file that was replaced meanwhile isn't taken for the old one. Use it if others change
+    /// the directory, and both hosts have the same file system. For --migration-mode find-paths;
+    /// the source's option counts.
     #[arg(long)]
     pub migration_verify_handles: bool,
-    /// Paths are looked at again before they are sent
+    /// The source looks at each path again when the guest has stopped
+    ///
+    /// A path that no longer leads to its inode is looked up in /proc/self/fd. Use it if others
+    /// change the directory. The guest is stopped for longer, by a look at each inode that it
+    /// holds. For --migration-mode find-paths; the source's option counts.
     #[arg(long)]
     pub migration_confirm_paths: bool,
-    /// error, warn, info, debug, trace, off
+    /// The least severe messages that are logged: error, warn, info, debug, trace, off
+    ///
+    /// `debug` has a line for each request that is refused as faulty.
     #[arg(long, default_value = "info")]
     pub log_level: log::LevelFilter,
     /// The same as --log-level debug [deprecated]
@@ -159,13 +332,18 @@ pub struct Options {
     /// Means nothing: the daemon never goes to the background [deprecated]
     #[arg(short = 'f')]
     pub foreground: bool,
-    /// Log by syslog, not to standard error
+    /// The log goes to syslog (/dev/log), not to standard error
     #[arg(long)]
     pub syslog: bool,
-    /// Say what the daemon can, as vhost-user.json wants it, and end
+    /// Print what the daemon can, as JSON for vhost-user.json, and exit
     #[arg(long)]
     pub print_capabilities: bool,
-    /// Options as the C virtiofsd took them, as in -o source=DIR,cache=auto,xattr [deprecated]
+    /// Options in the form of the C virtiofsd, such as -o source=DIR,cache=auto,xattr [deprecated]
+    ///
+    /// They are source, cache (auto, always, none, metadata), sandbox, loglevel (err, warn, info,
+    /// debug), modcaps and xattrmap; xattr, posix_acl, security_label, writeback, allow_direct_io,
+    /// killpriv_v2 and readdirplus, each also with no_ before it; announce_submounts, no_flock and
+    /// no_posix_lock. They apply after all others.
     #[arg(short = 'o')]
     compat_options: Vec<String>,
     /// Whether there were such options.
@@ -253,172 +431,4 @@ impl Options {
 }
 
 #[cfg(test)]
-mod tests {
-    use super::*;
-
-    fn parsed(words: &str) -> Result<Options, clap::Error> {
-        Options::try_parse_from(words.split_whitespace()).and_then(Options::with_compat)
-    }
-
-    fn options(words: &str) -> Result<Options, String> {
-        parsed(&format!("daemon --socket-path=/s --shared-dir=/d {words}"))
-            .map_err(|e| e.to_string())
-    }
-
-    #[test]
-    fn lists_and_labels_imply_xattr_and_what_init_agrees_on() {
-        let (acl, label) = (1 << 20 | 1 << 6 | 1 << 29, 1 << 32);
-        for (words, agreed) in [
-            ("--posix-acl", acl),
-            ("--security-label", label),
-            ("-o posix_acl,security_label", acl | label),
-            ("-o posix_acl,no_posix_acl,security_label", label),
-        ] {
-            let options = options(words).expect(words);
-            assert!(options.has_xattr(), "{words}");
-            assert_eq!(options.always_agreed().bits(), agreed, "{words}");
-        }
-        assert_eq!(options("--xattr").expect("options").always_agreed().bits(), 0);
-        assert!(!options("").expect("options").has_xattr());
-    }
-
-    #[test]
-    fn the_last_of_two_opposites_holds() {
-        let opposite = |words| options(words).expect(words).no_announce_submounts;
-        assert!(!opposite("") && !opposite("--no-announce-submounts --announce-submounts"));
-        assert!(opposite("--announce-submounts --no-announce-submounts"));
-        assert!(matches!(
-            options("--cache=auto --cache=never").expect("options").cache,
-            CachePolicy::Never
-        ));
-    }
-
-    #[test]
-    fn virtiofsds_words_are_taken() {
-        let all = "--sandbox=chroot --seccomp=log --cache=never --allow-mmap \
-                   --xattrmap=:map::user.virtiofs.: --killpriv-v2 --announce-submounts \
-                   --inode-file-handles=mandatory --rlimit-nofile=0 --modcaps=+sys_admin:-chown \
-                   --translate-uid=map:0:1000:1 --migration-mode=file-handles --log-level=debug \
-                   --syslog --tag=shared --thread-pool-size=64";
-        assert!(options(all).is_ok());
-        let old = parsed("daemon --socket /s --shared-dir /d -f -d --inode-file-handles=fallback")
-            .expect("options");
-        assert_eq!(
-            (old.messages(), old.socket.clone()),
-            (log::LevelFilter::Debug, Some("/s".into()))
-        );
-        let warned = old.warnings();
-        assert!(warned.len() == 4 && warned.iter().all(|warning| warning.contains("eprecated")));
-        assert!(options(all).expect("options").warnings().is_empty());
-    }
-
-    /// Wrong words, and how virtiofsd's message for them begins.
-    const WRONG: &[(&str, &str)] = &[
-        ("--cache=some", "invalid value 'some' for '--cache <CACHE>': invalid cache policy"),
-        ("--sandbox=x", "invalid value 'x' for '--sandbox <SANDBOX>': Unknown sandbox mode"),
-        ("--seccomp=x", "invalid value 'x' for '--seccomp <SECCOMP>': Matching variant not found"),
-        (
-            "--inode-file-handles=x",
-            "invalid value 'x' for '--inode-file-handles=<INODE_FILE_HANDLES>': invalid inode \
-             file handles mode",
-        ),
-        (
-            "--inode-file-handles",
-            "equal sign is needed when assigning values to \
-             '--inode-file-handles=<INODE_FILE_HANDLES>'",
-        ),
-        (
-            "--tag=",
-            "invalid value '' for '--tag <TAG>': The tag may not be empty or longer than 36 \
-             bytes (encoded as UTF-8).",
-        ),
-        ("--log-level=x", "invalid value 'x' for '--log-level <LOG_LEVEL>'"),
-        ("--fd=3", "the argument '--socket-path <SOCKET_PATH>' cannot be used with '--fd <FD>'"),
-        ("--no-such-option", "unexpected argument '--no-such-option' found"),
-        ("-o cache=some", "Invalid compat value 'some' for '-o cache'"),
-        ("-o cache=never", "Invalid compat value 'never' for '-o cache'"),
-        ("-o loglevel=trace", "Invalid compat value 'trace' for '-o loglevel'"),
-        ("-o sandbox=none", "Invalid compat value 'none' for '-o sandbox'"),
-        ("-o xattrmap=x", "Invalid compat value 'x' for '-o xattrmap'"),
-        ("-o flock", "Invalid compat argument '-o flock'"),
-        ("-o timeout=1", "Invalid compat argument '-o timeout=1'"),
-        ("-o source=/a=b", "Invalid compat argument '-o source=/a=b'"),
-        ("-o xattr,,no_flock", "Invalid compat argument '-o '"),
-    ];
-
-    /// The messages of virtiofsd 1.13.2 for the same words, up to the end of the line.
-    #[test]
-    fn what_is_wrong_is_refused_in_virtiofsds_words() {
-        for (words, wanted) in WRONG {
-            let why = options(words).expect_err(words);
-            assert!(why.starts_with(&format!("error: {wanted}")), "{words}: {why}");
-            assert!(why.contains("For more information, try '--help'."), "{words}: {why}");
-        }
-    }
-
-    #[test]
-    fn numbers_past_their_limits_are_refused() {
-        for wrong in ["--thread-pool-size=1025", "--num-request-queues=64"] {
-            assert!(options(wrong).is_err(), "{wrong}");
-        }
-    }
-
-    #[test]
-    fn compat_options_come_last() {
-        let of_libvirt = "daemon --fd=3 -o \
-             source=/srv/shared,cache=always,sandbox=chroot,xattr,no_flock,no_posix_lock -d";
-        let options = parsed(of_libvirt).expect("options");
-        assert_eq!((options.shared_dir.as_deref(), options.fd), (Some("/srv/shared"), Some(3)));
-        assert!(matches!(
-            (&options.cache, options.sandbox),
-            (CachePolicy::Always, SandboxMode::Chroot)
-        ));
-        assert!(options.has_xattr() && options.warnings().len() == 2);
-        let both = parsed(
-            "daemon --fd=3 --cache=auto -o \
-                source=/a,cache=none,loglevel=err,modcaps=-chown --cache=auto",
-        );
-        let both = both.expect("options");
-        assert!(matches!(
-            (&both.cache, both.messages()),
-            (CachePolicy::Never, log::LevelFilter::Error)
-        ));
-        assert_eq!(both.modcaps.as_deref(), Some("-chown"));
-        let several = parsed(
-            "daemon --fd=3 -o source=/a,xattr,writeback -o no_xattr,killpriv_v2,no_readdirplus",
-        )
-        .expect("options");
-        assert!(
-            !several.has_xattr()
-                && several.writeback
-                && several.killpriv_v2
-                && several.no_readdirplus
-        );
-        // `start::run` refuses it
-        assert_eq!(parsed("daemon --fd=3 -o xattr").expect("options").shared_dir, None);
-        assert!(parsed("daemon --fd=3").is_err());
-    }
-
-    #[test]
-    fn what_migrates_by_handles_needs_no_paths() {
-        let both =
-            "--migration-mode=file-handles --migration-confirm-paths --migration-verify-handles";
-        let why = options(both).expect("options").contradictions();
-        assert!(
-            why.len() == 2 && why.iter().all(|why| why.ends_with("(because it is unnecessary)"))
-        );
-        assert!(options("--migration-confirm-paths --migration-verify-handles")
-            .expect("options")
-            .contradictions()
-            .is_empty());
-    }
-
-    #[test]
-    fn capabilities_are_refused_in_virtiofsds_words() {
-        let why = |words: &str| words.parse::<CapabilityChanges>().expect_err(words);
-        assert_eq!(why(""), "empty modcap found: expected (+|-)capability:...");
-        assert_eq!(why("=+chown"), "invalid modcap action: expecting '+'|'-' but found '='");
-        assert!(why("+none").starts_with("invalid capability 'NONE': "));
-        assert!("+sys_admin:-CHOWN".parse::<CapabilityChanges>().is_ok());
-    }
-}
+mod tests;
