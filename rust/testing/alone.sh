@@ -60,8 +60,22 @@ compile() {
         "${@/#/$here/testing/}" "$by_chance/chance.c"
 }
 
+# The unit file, if there is a systemd: it has no fault, and is exposed little.
+check_unit() {
+    local unit=pitskhomu-virtiofsd@.service folder=$work/unit.d
+    [ -n "$(type -P systemd-analyze)" ] || return 0
+    mkdir -p "$folder"
+    sed "s,/usr/local/bin/pitskhomu-virtiofsd,$DAEMON," "$here/pitskhomu-virtiofsd/$unit" \
+        > "$folder/$unit"
+    systemd-analyze verify --man=no "$folder/$unit" || failure "unit: it has a fault"
+    systemd-analyze security --no-pager --offline=true --threshold=50 "$folder/$unit" \
+        > "$work/exposure" || failure "unit: $(tail -n 1 "$work/exposure")"
+    tail -n 1 "$work/exposure"
+}
+
 alone() {
     local threads
+    check_unit
     SECONDS_EACH=${SECONDS_EACH:-60}
     compile checks checks.c escape.c held.c labels.c platform.c stopped.c wild.c front.c
     compile hostile hostile.c front.c

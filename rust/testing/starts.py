@@ -2,14 +2,17 @@
 """starts.py DAEMON FOLDER: how the daemon starts and ends: what it refuses by name, its socket, the
 file beside it, a second daemon, --fd, signals, and --syslog where nothing else listens. Ends with 1
 at the first that isn't so."""
+import grp
 import json
 import os
 import resource
 import signal
 import socket
+import stat
 import struct
 import subprocess
 import sys
+import tempfile
 import time
 
 DAEMON, FOLDER = sys.argv[1:]
@@ -62,6 +65,18 @@ def table_size(*words):
     front_end.close()
     check(f"it answers and ends {words}", ended(daemon)[0] == 0 and len(answered) == 20)
     return size
+
+
+def connects_as(path, groups):
+    """Whether a process of another user, who is in these groups, can connect."""
+    child = os.fork()
+    if child == 0:
+        os.setgroups(groups)
+        os.setgid(65534)
+        os.setuid(65534)
+        with socket.socket(socket.AF_UNIX) as front_end:
+            os._exit(front_end.connect_ex(path) != 0)
+    return os.waitpid(child, 0)[1] == 0
 
 
 def check(what, holds):
@@ -118,6 +133,19 @@ for sandbox in ("namespace", "chroot", "none"):
     check(f"a wide table in the sandbox {sandbox}: {size}", min(limit, 1 << 18) <= size)
 size = table_size("--sandbox=namespace", "--rlimit-nofile=5000")
 check(f"the table is as wide as the limit: {size}", 5000 <= size <= 8192)
+
+# A group's users can connect, and no others.
+with tempfile.TemporaryDirectory(dir="/tmp") as folder:
+    os.chmod(folder, 0o711)
+    path, group = folder + "/socket", grp.getgrall()[-1]
+    daemon = start("--socket-path", path, "--socket-group", group.gr_name)
+    while not (os.path.exists(path) and os.stat(path).st_gid == group.gr_gid):
+        time.sleep(0.05)
+    time.sleep(0.1)
+    check("the socket is its group's", stat.S_IMODE(os.stat(path).st_mode) == 0o660)
+    check("no other user connects", not connects_as(path, []))
+    check("a user of the group connects", connects_as(path, [group.gr_gid]))
+    check("it ends with that user's front-end", ended(daemon)[0] == 0)
 
 with listener(FOLDER + "/handed", socket.SOCK_STREAM) as handed:
     handed.listen(1)
