@@ -2,7 +2,7 @@
 """frozen.py DAEMON WORK ROOT THREADS: a guest writes lines to an ext4 of the host below the share,
 and the host freezes it, so that a call is held. QEMU's monitor answers `stop`, `cont` and
 `system_reset` at once, a migration fails and the guest goes on, and after the thaw each line is
-there once. WORK has the guest's kernel, image and share, ROOT is where QEMU is unpacked. Ends with
+there once. Before that the daemon itself is stopped, frozen and traced again and again. WORK has the guest's kernel, image and share, ROOT is where QEMU is unpacked. Ends with
 1 at the first that isn't so; with 3 if the host can't freeze a file system of its own."""
 import json
 import os
@@ -14,6 +14,12 @@ import sys
 import time
 from pathlib import Path
 
+sys.dont_write_bytecode = True
+sys.path.insert(0, str(Path(__file__).parents[1] / "pitskhomu-virtiofsd/tests/operate"))
+# pylint: disable=wrong-import-position
+import pauses
+from daemon import Daemon
+
 DAEMON, WORK, ROOT, THREADS = sys.argv[1:]
 RUN, MOUNT = Path(WORK, "run-frozen"), Path(WORK, "share/work/frozen")
 IMAGE = Path(WORK, "frozen.ext4")
@@ -21,6 +27,7 @@ LIBRARIES = f"{ROOT}/usr/lib/x86_64-linux-gnu"
 # A command may take so long, in seconds, on a busy machine.
 SOON = 0.5
 PATIENCE = 300
+PAUSES = 20
 
 
 def check(what, holds):
@@ -120,8 +127,22 @@ class Monitor:
         return "under way"
 
 
-def try_all(monitor):
+def pause(daemon):
+    """Stops, freezes and traces the daemon while the guest writes."""
+    operated = Daemon.__new__(Daemon)
+    operated.process = daemon
+    for how in (pauses.stop, pauses.trace, *([pauses.freeze] if pauses.unified() else [])):
+        for _ in range(PAUSES):
+            how(operated)
+            time.sleep(0.05)
+        since = len(console())
+        wait_for("LINE ", since)
+    print(f"frozen: a guest goes on while the daemon is stopped and traced {PAUSES} times")
+
+
+def try_all(monitor, daemon):
     wait_for("LINE 3")
+    pause(daemon)
     freeze("-f")
     time.sleep(2)
     for command in ("stop", "cont", "stop"):
@@ -151,7 +172,7 @@ def main():
         wait_for_path(RUN / "socket")
         guest = qemu()
         try:
-            try_all(Monitor())
+            try_all(Monitor(), daemon)
         finally:
             subprocess.run(["fsfreeze", "-u", MOUNT], stderr=subprocess.DEVNULL, check=False)
             guest.terminate()

@@ -65,7 +65,7 @@ fn to_syslog() -> Option<File> {
 /// Where standard error leads while a directory is served, and where it leads in between.
 struct Ends {
     log: File,
-    nowhere: File,
+    nowhere: Option<File>,
 }
 
 static ENDS: OnceLock<Ends> = OnceLock::new();
@@ -73,7 +73,7 @@ static ENDS: OnceLock<Ends> = OnceLock::new();
 /// Opens both ends, before the daemon enters its sandbox. `errors` is standard error as the daemon
 /// was started with it.
 pub fn open(errors: File, is_syslog: bool) -> io::Result<()> {
-    let nowhere = moved(OpenOptions::new().write(true).open("/dev/null")?)?;
+    let nowhere = OpenOptions::new().write(true).open("/dev/null").and_then(moved).ok();
     let other = match is_syslog {
         true if is_journal(&errors) => None,
         true => to_syslog(),
@@ -103,7 +103,8 @@ impl Drop for Back {
 pub fn without_errors<T>(call: impl FnOnce() -> T) -> T {
     static TURN: Mutex<()> = Mutex::new(());
     let _turn = TURN.lock().unwrap_or_else(PoisonError::into_inner);
-    let _back = ENDS.get().map(|ends| (lead_to(ends.nowhere.as_raw_fd()), Back));
+    let nowhere = ENDS.get().and_then(|ends| ends.nowhere.as_ref());
+    let _back = nowhere.map(|nowhere| (lead_to(nowhere.as_raw_fd()), Back));
     call()
 }
 
