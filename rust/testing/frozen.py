@@ -2,8 +2,9 @@
 """frozen.py DAEMON WORK ROOT THREADS: a guest writes lines to an ext4 of the host below the share,
 and the host freezes it, so that a call is held. QEMU's monitor answers `stop`, `cont` and
 `system_reset` at once, a migration fails and the guest goes on, and after the thaw each line is
-there once. Before that the daemon itself is stopped, frozen and traced again and again. WORK has the guest's kernel, image and share, ROOT is where QEMU is unpacked. Ends with
-1 at the first that isn't so; with 3 if the host can't freeze a file system of its own."""
+there once. Before that the daemon itself is stopped, frozen and traced again and again. WORK has
+the guest's kernel, image and share, ROOT is where QEMU is unpacked. Ends with 1 at the first that
+isn't so; with 3 if the host can't freeze a file system of its own."""
 import json
 import os
 import re
