@@ -16,12 +16,11 @@ use Rattle.virtiofsd_fuse.specs.Grammar.{meaning, meant, row}
 use Rattle.virtiofsd_fuse.specs.Serving.{May}
 use Rattle.plain_machine.specs.Examples.{queue}
 use Rattle.plain_machine.specs.StepBy.{FindFlags}
-use Rattle.live_machine.specs.Live.{DecodesRequest, DecodesRequestSo, EndsPop, EndsPopSo, PushesChainSo, event_acts}
+use Rattle.live_machine.specs.Live.{DecodesRequestSo, EndsPopSo, PushesChainSo, event_acts}
 use Rattle.live_machine.specs.Overlap.{at_positions, destroy, first, first_loads, first_table, second, second_loads, state}
 use Rattle.live_machine.specs.Overlap.{unknown}
-use Rattle.live_machine.specs.Serial.{FoundIn, SerialRun, plain, return_in}
+use Rattle.live_machine.specs.Serial.{FoundIn, SerialRun, return_in}
 use Rattle.live_machine.specs.Several.{LiveQueue}
-use Rattle.live_machine.specs.Steps.{IsAStepOver, ReturnedIsStep}
 use Rattle.live_machine.proofs.OverlapRun.{first_fetches, first_there, second_fetches, second_there, answers, returns}
 use Rattle.live_machine.proofs.Queues.{same_some}
 use Rattle.worked_callers.specs.InARow.{after_both, after_one, first_asked, first_exchange, first_used, one, second_answered, second_asked}
@@ -133,19 +132,3 @@ in_a_row {F} may before after so = (
     (refl, refl),
   ),
 )
-
--- the first chain over that memory, by itself
-pub first_over : {F : Type 0} (may : May F) (law : ReturnedIsStep may may) (f : F) →
-    IsAStepOver may (plain (state f (at_positions 0 0) 1 []) with_both) f (at_positions 1 0) first_asked first_exchange (return_in one)
-    (le16 0) true
-unfolding place addresses stored_all
-first_over may law f =
-    law (state f (at_positions 0 0) 1 []) (state f (at_positions 1 0) 1 (first_asked ∷ [])) (state f (at_positions 1 1) 1 [])
-    (EndsPop 0 first_loads first_table (step.Chain 0 None) ∷ DecodesRequest first unknown [] ∷ []) first_asked first_exchange true 0
-    first_used (le16 0) (plain (state f (at_positions 0 0) 1 []) with_both) f (at_positions 1 0) refl (
-      state f (at_positions 1 0) 1 (first ∷ []),
-      first_walks f,
-      (state f (at_positions 1 0) 1 (first_asked ∷ []), first_asks f, refl),
-    )
-    (first_returns f) tt refl refl (record { places = refl; limit = refl; page_size = refl; options = refl; queue = refl }) refl
-    (record { loads = first_has; apart = inl refl })

@@ -1,5 +1,4 @@
 pub mod AmidListings
-pub mod BegunListings
 pub mod HeldPop
 pub mod InARowRun
 pub mod MissedEvent

@@ -1,5 +1,4 @@
 pub mod AmidListings
-pub mod BegunListings
 pub mod InARow
 pub mod Marks
 pub mod Notified

@@ -12,7 +12,6 @@ pub mod marks;
 pub mod missed_event;
 pub mod misses;
 pub mod offers;
-pub mod refusals;
 pub mod takers;
 pub mod untouched;
 pub mod worked_runs;

@@ -1,31 +1,13 @@
-//! A listing that begins, and one amid which another handle's chain is pushed.
+//! A listing amid which another handle's chain is pushed.
 
-ghost use Rattle.std.specs.Prelude.{◌≡◌, IfOk, None};
+ghost use Rattle.std.specs.Prelude.{◌≡◌, IfOk};
 ghost use Rattle.fuse_fs.specs.Answers.{listed};
-ghost use Rattle.fs_chain.specs.Decoding.{wanted_by};
 ghost use Rattle.fs_chain.specs.declared.listing.Added.TheVariants as added;
 ghost use Rattle.worked_callers.specs.AmidListings.{PushesAmid};
-ghost use Rattle.worked_callers.specs.BegunListings.{BeginsToGather};
 
 use fs_chain::laws::{law_listings, law_together};
-use fs_chain::{Added, ChainError, ChainHandle, Decoded, QueueState, push_whole};
+use fs_chain::{Added, ChainError, ChainHandle, QueueState, push_whole};
 use fuse_fs::{DirEntry, Entry};
-use server_phases::Session;
-
-/// Decodes a request for a listing. In each run in which the handle has the chain, it gathers the listing
-/// then, unless more bytes of the request are needed.
-#[tactic(auto, using(crate::proofs::BegunListings::gathers_from))]
-pub fn begin_listing<'a>(
-    lister: &mut ChainHandle,
-    session: Session,
-    request: &'a [u8],
-) -> Result<Decoded<'a>, ChainError>
-    ensures begins { IfOk result (λ reported. wanted_by reported ≡ None
-        → BeginsToGather lister.old lister.new session request.now) }
-{
-    law_listings();
-    lister.decode(session, request)
-}
 
 /// Adds an entry to a handle's listing, pushes the chain of another handle, and adds one more entry. The
 /// handles are of one run: between the two entries each still has its chain.
