@@ -11,7 +11,6 @@ use std::env;
 use std::error::Error;
 use std::fs::File;
 use std::io;
-use std::os::fd::AsRawFd;
 use std::panic::PanicHookInfo;
 use std::sync::atomic::{AtomicBool, AtomicI32, AtomicU64, Ordering};
 use std::sync::mpsc::{sync_channel, Receiver, RecvTimeoutError, SyncSender};
@@ -30,7 +29,7 @@ const LAST_LINES: Duration = Duration::from_millis(200);
 /// The time between two looks for numbers of lines left out, if no period ends before.
 const LOOK: Duration = Duration::from_secs(3600);
 
-/// The descriptor of standard error, as the daemon was started with it.
+/// A descriptor of the log's target, for what no thread may be able to write.
 static ERRORS: AtomicI32 = AtomicI32::new(libc::STDERR_FILENO);
 
 /// A message to the thread that writes.
@@ -83,7 +82,6 @@ fn to_syslog() -> Result<Box<dyn Log>, String> {
 /// Writes lines to standard error.
 fn to_errors(options: &Options, errors: &File) -> io::Result<(Box<dyn Log>, log::LevelFilter)> {
     let errors = errors::moved(errors)?;
-    ERRORS.store(errors.as_raw_fd(), Ordering::Relaxed);
     let mut builder = env_logger::Builder::new();
     match env::var("RUST_LOG") {
         Ok(filters) => builder.parse_filters(&filters),
@@ -98,14 +96,16 @@ impl Logger {
     /// Begins the log. Until `start` the caller itself writes each line. Without syslog's socket
     /// the log goes to standard error, as virtiofsd's does.
     pub fn new(options: &Options) -> Result<Logger, Box<dyn Error>> {
-        let errors = errors::moved(io::stderr())?;
+        let errors = errors::moved(io::stderr())
+            .map_err(|e| format!("standard error has no other descriptor (RLIMIT_NOFILE): {e}"))?;
         let syslog = options.syslog.then(to_syslog);
         let no_syslog = syslog.as_ref().and_then(|syslog| syslog.as_ref().err()).cloned();
         let (writer, level) = match syslog {
             Some(Ok(writer)) => (writer, options.messages()),
             _ => to_errors(options, &errors)?,
         };
-        errors::open(errors, options.syslog && no_syslog.is_none())?;
+        let target = errors::open(errors, options.syslog && no_syslog.is_none())?;
+        ERRORS.store(target, Ordering::Relaxed);
         let logger = Logger::over(writer);
         log::set_boxed_logger(Box::new(Logger(logger.0.clone())))?;
         log::set_max_level(level);
@@ -231,17 +231,16 @@ impl Log for Logger {
     /// Waits a moment until the lines so far are written.
     fn flush(&self) {
         self.0.wait_for(ToWrite::Written);
-        self.0.writer.flush();
     }
 }
 
-/// Whether standard error takes a line at once: a pipe that nobody reads is full some time.
+/// Whether the log's target takes a line at once: a pipe that nobody reads is full some time.
 fn errors_have_room() -> bool {
     let fd = ERRORS.load(Ordering::Relaxed);
     Room::new(fd).ok().flatten().is_none_or(|room| room.is_there())
 }
 
-/// Writes to standard error from a signal's handler, and doesn't wait for those who read it.
+/// Writes to the log's target from a signal's handler, and doesn't wait for those who read it.
 pub fn write_at_the_end(bytes: &[u8]) {
     let fd = ERRORS.load(Ordering::Relaxed);
     // SAFETY: a signal's handler may call all of these, and the bytes are borrowed.

@@ -70,9 +70,9 @@ struct Ends {
 
 static ENDS: OnceLock<Ends> = OnceLock::new();
 
-/// Opens both ends, before the daemon enters its sandbox. `errors` is standard error as the daemon
-/// was started with it.
-pub fn open(errors: File, is_syslog: bool) -> io::Result<()> {
+/// Opens both ends, before the daemon enters its sandbox, and returns the log's. `errors` is
+/// standard error as the daemon was started with it.
+pub fn open(errors: File, is_syslog: bool) -> io::Result<RawFd> {
     let nowhere = OpenOptions::new().write(true).open("/dev/null").and_then(moved).ok();
     let other = match is_syslog {
         true if is_journal(&errors) => None,
@@ -80,8 +80,7 @@ pub fn open(errors: File, is_syslog: bool) -> io::Result<()> {
         false => without_waiting(&errors),
     };
     let log = other.map_or(Ok(errors), moved)?;
-    let _ = ENDS.set(Ends { log, nowhere });
-    Ok(())
+    Ok(ENDS.get_or_init(|| Ends { log, nowhere }).log.as_raw_fd())
 }
 
 /// Leads standard error to the log.

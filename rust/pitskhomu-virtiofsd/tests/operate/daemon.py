@@ -187,6 +187,14 @@ class Syslog:
         daemon.syslog = cls(path)
         return with_dev(program, path), options
 
+    def fill(self):
+        """Others have sent as many messages as wait for it, and it reads none."""
+        with socket.socket(socket.AF_UNIX, socket.SOCK_DGRAM) as other:
+            other.connect(self.socket.getsockname())
+            with suppress(BlockingIOError):
+                while True:
+                    other.send(b"others", socket.MSG_DONTWAIT)
+
     def said(self):
         """The messages so far."""
         try:

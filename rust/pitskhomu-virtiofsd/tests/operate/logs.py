@@ -87,6 +87,19 @@ def syslog(program):
         return outcome if "Client connected" in said else ("silent", said)
 
 
+def unread_syslog(program):
+    """The one that listens at /dev/log is stuck."""
+    def prepare(daemon, *more):
+        words = Syslog.prepare(daemon, *more)
+        daemon.syslog.fill()
+        return words
+
+    if not is_root():
+        return "skipped", "only root has a /dev/log of its own"
+    with Daemon(program, "--syslog", prepare=prepare) as daemon:
+        return serves(daemon, patience=5)
+
+
 def silent(program):
     with Daemon(program, "--log-level=off") as daemon:
         outcome = serves(daemon)
@@ -103,5 +116,6 @@ def rows():
         Row("a log that a guest could fill, and nobody reads", many_sessions_unread),
         Row("--syslog, and no /dev/log", no_syslog),
         Row("--syslog", syslog),
+        Row("--syslog, and nobody reads /dev/log", unread_syslog),
         Row("--log-level=off", silent),
     ]
