@@ -12,9 +12,9 @@ use Rattle.fs_turns.specs.declared.machine.Notifications.{Notifications}
 use Rattle.fs_turns.specs.declared.machine.TurnPhase.{TurnPhase}
 use Rattle.fs_turns.specs.declared.machine.TurnPhase.TheVariants.{Free, Resumes, Pops, ArmsToSleep, ArmsToAnswer, Looks, Mutes}
 use Rattle.fs_turns.specs.declared.machine.TurnEvent.TheVariants.{Woken, Back}
-use Rattle.fs_turns.specs.Next.{Next, wrong}
+use Rattle.fs_turns.specs.Next.{Next, wrong, is_free}
 use Rattle.fs_turns.specs.Next as machine
-use Rattle.fs_turns.specs.Worlds.{World, Move, is_free, is_arming, settles, reports_at, may_report, may_move, after_move, Moves, begun}
+use Rattle.fs_turns.specs.Worlds.{World, Move, is_arming, settles, reports_at, may_report, may_move, after_move, Moves, begun}
 use Rattle.fs_turns.specs.Worlds.{Gives, Arrives, DriverChecks, DriverNotifies, WishArrives, Wakens, Comes, Signals, SignalsToo, Pauses}
 use Rattle.fs_turns.specs.Worlds.{GoesOn, AnswerComes}
 use Rattle.fs_turns.specs.Worlds.{EntersWoken, EntersBack, Interrupts, StoresWish, Reports, IsForgotten, NoTurnIsLost, NoInterruptIsLost}

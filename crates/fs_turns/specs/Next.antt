@@ -20,6 +20,10 @@ pub record Next : Type 0 where
   pub turns : Turns
   pub orders : TurnOrders
 
+abbrev pub is_free : TurnPhase → Bool
+is_free Free = true
+is_free _ = false
+
 abbrev pub begun_turns : (by_event : Bool) → Turns
 begun_turns by_event =
     record {
@@ -30,6 +34,10 @@ begun_turns by_event =
       owed = false;
       phase = Free;
     }
+
+-- the queue was reset, while threads may sleep: memory says nothing of their notifications
+abbrev pub reset_turns : Turns → (by_event : Bool) → Turns
+reset_turns t by_event = record t { by_event = by_event; notifications = Unknown }
 
 abbrev pub only : TurnAction → TurnOrders
 only action = record { action = action; wakes = false; interrupts = false }

@@ -20,7 +20,7 @@ use Rattle.fs_turns.specs.declared.machine.TurnEvent.TheVariants.{Idle, Full, Pa
 use Rattle.fs_turns.specs.declared.machine.TurnEvent.TheVariants.{Armed, NotArmed, More, NoMore, Muted}
 use Rattle.fs_turns.specs.declared.machine.TurnAction.{TurnAction}
 use Rattle.fs_turns.specs.declared.machine.TurnAction.TheVariants as act
-use Rattle.fs_turns.specs.Next.{Next, next_at, begun_turns}
+use Rattle.fs_turns.specs.Next.{Next, next_at, begun_turns, is_free}
 
 pub record World : Type 0 where
   -- memory, the event that the threads sleep for, and the driver, as in the model
@@ -88,10 +88,6 @@ pub data Move : Type 0 where
   -- it saw
   -- that another thread waits for the lock
   Reports : (event : TurnEvent) → (fresh : Bool) → (comes : Bool) → Move
-
-abbrev pub is_free : TurnPhase → Bool
-is_free Free = true
-is_free _ = false
 
 abbrev pub is_arming : TurnPhase → Bool
 is_arming ArmsToSleep = true

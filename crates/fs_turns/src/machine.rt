@@ -1,8 +1,8 @@
 //! The machine: its state, events and actions.
 
-ghost use Rattle.std.specs.Prelude.{◌≡◌};
+ghost use Rattle.std.specs.Prelude.{◌≡◌, if◌then◌else◌};
 ghost use Rattle.fs_turns.specs.Next.{arms, arms_to_answer, arms_to_sleep, begins, begun_turns, ends, enters};
-ghost use Rattle.fs_turns.specs.Next.{finds_none};
+ghost use Rattle.fs_turns.specs.Next.{finds_none, is_free, reset_turns};
 ghost use Rattle.fs_turns.specs.Next.{hands_on, is_disabled, is_enabled_at, leaves, looks, muted, next, pops};
 ghost use Rattle.fs_turns.specs.Next.{rests};
 ghost use Rattle.fs_turns.specs.Next.{resumes, stays, wakes_one};
@@ -165,8 +165,7 @@ impl Notifications {
 }
 
 impl Turns {
-    /// A queue that no thread serves yet. Begin with this after each reset, too, once the queue's
-    /// threads of before have ended.
+    /// A queue that no thread serves yet.
     pub fn new(by_event: bool) -> Turns
         ensures { result ≡ begun_turns by_event }
     {
@@ -178,6 +177,23 @@ impl Turns {
             owed: false,
             phase: TurnPhase::Free,
         }
+    }
+
+    /// The queue was reset by a thread that holds its lock, while others may sleep or answer chains.
+    /// Signal the threads' event then, since chains may be available. Returns `false`, and changes
+    /// nothing, while a thread has an action to perform under the lock.
+    pub fn reset(&mut self, by_event: bool) -> bool
+        ensures turns {
+            self.new ≡ (if is_free self.old.phase then reset_turns self.old by_event else self.old)
+        }
+        ensures done { result ≡ is_free self.old.phase }
+    {
+        if !matches!(self.phase, TurnPhase::Free) {
+            return false;
+        }
+        self.by_event = by_event;
+        self.notifications = Notifications::Unknown;
+        true
     }
 
     fn stays(&mut self, phase: TurnPhase, action: TurnAction) -> TurnOrders

@@ -1,5 +1,6 @@
-//! The declarations of pitskhomu.h, in its order, with its names (without `pk_` and `PK_`). The
-//! header documents them. The script `tools/declared` compares the two.
+//! The declarations of pitskhomu.h, and at the end of pitskhomu_turns.h, in their order, with their
+//! names (without `pk_` and `PK_`). The headers document them. The script `tools/declared` compares
+//! the two.
 // The numbers and fields are written as the header has them.
 #![allow(clippy::unreadable_literal, clippy::struct_field_names)]
 
@@ -34,6 +35,7 @@ const _: () = {
     assert!(size_of::<Statfs>() == 56);
     assert!(size_of::<Stores>() == 72);
     assert!(size_of::<Store>() == 16);
+    assert!(size_of::<Turns>() == 16);
 };
 
 /// enum `pk_status`: the numbers that aren't refusals. The refusals are `Status`.
@@ -388,4 +390,59 @@ extern "C" {
     pub fn pk_restore(device: &mut Device, queues: *mut Queue, queue_count: usize, saved: *const u8,
         saved_len: usize,
         count: &mut usize) -> u32;
+}
+
+/// enum `pk_action`.
+#[allow(dead_code)] // without std there is no loop
+pub mod turns {
+    pub const DO_WRONG: u32 = 0;
+    pub const DO_RESUME: u32 = 1;
+    pub const DO_POP: u32 = 2;
+    pub const DO_ARM: u32 = 3;
+    pub const DO_LOOK: u32 = 4;
+    pub const DO_MUTE: u32 = 5;
+    pub const DO_ANSWER: u32 = 6;
+    pub const DO_SLEEP: u32 = 7;
+    pub const DO_STEP_ASIDE: u32 = 8;
+    pub const DO_STOP: u32 = 9;
+    pub const DO: u32 = 255;
+    pub const WAKE_ONE: u32 = 256;
+    pub const INTERRUPT: u32 = 512;
+}
+
+#[repr(C)]
+#[derive(Clone, Copy, Debug, Default)]
+pub struct Turns {
+    pub sleeping: u64,
+    pub enabled_at: u16,
+    pub notifications: u8,
+    pub phase: u8,
+    pub event_index: u8,
+    pub called: u8,
+    pub owed: u8,
+    pub reserved: u8,
+}
+
+#[rustfmt::skip]
+#[allow(dead_code)] // without std there is no loop
+extern "C" {
+    pub fn pk_turns_begin(turns: &mut Turns, event_index: u32);
+    pub fn pk_turns_reset(turns: &mut Turns, event_index: u32) -> u32;
+    pub fn pk_turn_woken(turns: &mut Turns, answers_wait: u32) -> u32;
+    pub fn pk_turn_back(turns: &mut Turns, notify: u32, answers_wait: u32) -> u32;
+    pub fn pk_turn_resumed(turns: &mut Turns, another: u32, next_avail: u16, is_full: u32,
+        another_comes: u32) -> u32;
+    pub fn pk_turn_none_resumed(turns: &mut Turns) -> u32;
+    pub fn pk_turn_popped(turns: &mut Turns, next_avail: u16, is_full: u32,
+        another_comes: u32) -> u32;
+    pub fn pk_turn_idle(turns: &mut Turns, polls: u32, next_avail: u16) -> u32;
+    pub fn pk_turn_full(turns: &mut Turns) -> u32;
+    pub fn pk_turn_paused(turns: &mut Turns) -> u32;
+    pub fn pk_turn_later(turns: &mut Turns) -> u32;
+    pub fn pk_turn_refused(turns: &mut Turns) -> u32;
+    pub fn pk_turn_armed(turns: &mut Turns, next_avail: u16) -> u32;
+    pub fn pk_turn_not_armed(turns: &mut Turns) -> u32;
+    pub fn pk_turn_more(turns: &mut Turns) -> u32;
+    pub fn pk_turn_no_more(turns: &mut Turns) -> u32;
+    pub fn pk_turn_muted(turns: &mut Turns) -> u32;
 }
