@@ -14,8 +14,10 @@ GET_FEATURES, SET_FEATURES, SET_OWNER, SET_MEM_TABLE = 1, 2, 3, 5
 SET_VRING_NUM, SET_VRING_ADDR, SET_VRING_BASE = 8, 9, 10
 SET_VRING_KICK, SET_VRING_CALL, SET_VRING_ERR = 12, 13, 14
 GET_PROTOCOL_FEATURES, SET_PROTOCOL_FEATURES, SET_VRING_ENABLE = 15, 16, 18
+GET_VRING_BASE, SET_DEVICE_STATE_FD, CHECK_DEVICE_STATE = 11, 42, 43
+SAVE, LOAD = 0, 1
 VERSION, NEEDS_REPLY = 1, 8
-MQ, REPLY_ACK = 1 << 0, 1 << 3
+MQ, REPLY_ACK, DEVICE_STATE = 1 << 0, 1 << 3, 1 << 19
 FEATURES = 1 << 32 | 1 << 30  # VIRTIO_F_VERSION_1, protocol features
 # Opcodes of linux/fuse.h.
 LOOKUP, GETATTR, OPEN, READ, WRITE, RELEASE, INIT, CREATE = 1, 3, 14, 15, 16, 18, 26, 35
@@ -74,7 +76,7 @@ class Front:
     def set_up(self):
         self.message(SET_OWNER, is_acknowledged=False)
         assert self.number(GET_FEATURES) & FEATURES == FEATURES
-        protocol = self.number(GET_PROTOCOL_FEATURES) & (MQ | REPLY_ACK)
+        protocol = self.number(GET_PROTOCOL_FEATURES) & (MQ | REPLY_ACK | DEVICE_STATE)
         self.message(SET_PROTOCOL_FEATURES, struct.pack("Q", protocol), is_acknowledged=False)
         self.tell(SET_FEATURES, struct.pack("Q", FEATURES))
         self.tell(SET_MEM_TABLE, struct.pack("IIQQQQ", 1, 0, 0, LENGTH, USER, 0), [self.file])
@@ -87,6 +89,25 @@ class Front:
         self.tell(SET_VRING_ERR, word, [self.err])
         self.tell(SET_VRING_KICK, word, [self.kick])
         self.tell(SET_VRING_ENABLE, struct.pack("II", QUEUE, 1))
+
+    def stop(self):
+        """Stops the ring."""
+        self.message(GET_VRING_BASE, struct.pack("II", QUEUE, 0), is_acknowledged=False)
+        self.reply()
+
+    def transfer(self, direction):
+        """Has a state saved or loaded, and returns the other end of its pipe."""
+        ends = os.pipe()
+        theirs = ends[1 - direction]
+        body = struct.pack("II", direction, 0)
+        self.message(SET_DEVICE_STATE_FD, body, [theirs], is_acknowledged=False)
+        os.close(theirs)
+        if struct.unpack("Q", self.reply())[0] & 0xff:
+            raise Lost("no state is transferred")
+        return os.fdopen(ends[direction], "rb" if direction == SAVE else "wb", buffering=0)
+
+    def is_transferred(self):
+        return self.number(CHECK_DEVICE_STATE) == 0
 
     def put(self, at, form, *values):
         struct.pack_into(form, self.memory, at, *values)

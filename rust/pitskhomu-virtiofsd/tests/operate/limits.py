@@ -20,7 +20,8 @@ def few_threads(program):
     limit = limited(resource.RLIMIT_NPROC, 8)
     with Daemon(program, "--sandbox=none", "--thread-pool-size=16", prepare=as_user,
             preexec_fn=limit) as daemon:
-        return judged(daemon, r"thread \d+ of 16 of queue 1 can't start: .*RLIMIT_NPROC")
+        of_thread = r"thread \d+ of 16 of queue 1 can't start: .*RLIMIT_NPROC|CreateThreadPool"
+        return judged(daemon, of_thread)
 
 
 def little_memory(program):
@@ -37,7 +38,9 @@ def many_threads(program):
             return "skipped", "vm.max_map_count is greater than Linux's own 65530"
     with Daemon(program, "--rlimit-nofile=0", "--num-request-queues=63",
             "--thread-pool-size=300") as daemon:
-        return judged(daemon, "63 queues of 300 threads .*vm.max_map_count is 65530")
+        outcome = judged(daemon, "63 queues of 300 threads .*vm.max_map_count is 65530")
+        has_one = "unexpected argument" in daemon.said()
+        return ("skipped", "it has one queue") if has_one else outcome
 
 
 def few_descriptors(program):

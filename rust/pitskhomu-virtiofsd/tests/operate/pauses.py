@@ -1,6 +1,6 @@
 """Stops: SIGSTOP and SIGCONT, the freezer of cgroup v2, and a debugger that attaches and detaches.
-Each at rest, under load, while the host holds a call, and while a message waits for such a call; in
-each sandbox."""
+Each at rest, under load, while the host holds a call, while a message waits for such a call, and
+while a state is loaded; in each sandbox."""
 import ctypes
 import fcntl
 import os
@@ -12,10 +12,9 @@ import time
 from functools import partial
 
 from daemon import Daemon, sandboxes
-from front import GETATTR, OPEN, QUEUE, ROOT, Lost
+from front import GET_VRING_BASE, GETATTR, LOAD, OPEN, QUEUE, ROOT, SAVE, Lost
 from rows import Row
 
-GET_VRING_BASE = 11
 A_WHILE = 0.06
 TIMES = 3
 PTRACE_ATTACH, PTRACE_DETACH, WALL = 16, 17, 0x40000000
@@ -161,23 +160,45 @@ class Message:
             raise Lost("GET_VRING_BASE isn't answered")
 
 
+class State:
+    """A state is loaded whose bytes come later."""
+
+    def __init__(self, daemon, front):
+        front.look_up("file")
+        front.stop()
+        with front.transfer(SAVE) as pipe:
+            self.bytes = pipe.read()
+        if not front.is_transferred():
+            raise Lost("no state is saved")
+        self.front, self.pipe = front, front.transfer(LOAD)
+
+    def end(self):
+        self.pipe.write(self.bytes)
+        self.pipe.close()
+        if not self.front.is_transferred():
+            raise Lost("the state isn't loaded")
+
+
 STATES = {
     "at rest": lambda daemon, front: None,
     "under load": lambda daemon, front: Load(front),
     "with a held call": Held,
     "while a message waits": Message,
+    "while a state is loaded": State,
 }
+# The ring has stopped by then.
+STOPPED = (Message, State)
 
 
 def paused(daemon, pause, state):
     """Pauses the daemon a few times in one state. The ring serves again after it."""
     front = daemon.front().begin()
     under_way = STATES[state](daemon, front)
-    for _ in range(1 if state == "while a message waits" else TIMES):
+    for _ in range(1 if STATES[state] is Message else TIMES):
         pause(daemon)
     if under_way:
         under_way.end()
-    if state != "while a message waits" and front.attributes():
+    if STATES[state] not in STOPPED and front.attributes():
         raise Lost("GETATTR fails")
     front.leave()
     status = daemon.ended()
