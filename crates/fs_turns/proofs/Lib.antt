@@ -1,3 +1,4 @@
+pub mod Moving
 pub mod Reporting
 pub mod Runs
 pub mod Tracks

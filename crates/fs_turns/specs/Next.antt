@@ -39,6 +39,9 @@ begun_turns by_event =
 abbrev pub reset_turns : Turns → (by_event : Bool) → Turns
 reset_turns t by_event = record t { by_event = by_event; notifications = Unknown }
 
+abbrev pub after_reset : Turns → (by_event : Bool) → Turns
+after_reset t by_event = if is_free t.phase then reset_turns t by_event else t
+
 abbrev pub only : TurnAction → TurnOrders
 only action = record { action = action; wakes = false; interrupts = false }
 

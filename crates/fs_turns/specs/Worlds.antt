@@ -7,7 +7,7 @@
 -- load or store that the driver sees.
 use Rattle.std.specs.Prelude.{◌≡◌, ℕ, ◌+◌, ◌-◌, ◌^◌, ◌<◌, ◌≤◌, ◌==◌, Bool, true, false, not, ◌&&◌, ◌||◌, ◌⊎◌}
 use Rattle.std.specs.Prelude.{nat_lt, nat_le, List, [], ◌∷◌, IsTrue, if◌then◌else◌}
-use Rattle.notify.specs.Kicks.{ahead, moved, must}
+use Rattle.notify.specs.Kicks.{ahead, back, moved, must}
 use Rattle.notify.specs.Threads.{Ways, right_ways}
 use Rattle.fs_turns.specs.declared.machine.Turns.{Turns}
 use Rattle.fs_turns.specs.declared.machine.Seen.{Seen}
@@ -80,6 +80,8 @@ pub data Move : Type 0 where
   -- a thread takes the lock, and reports Woken; or takes it, pushes this many chains, and reports Back
   EntersWoken : (no_answer : Bool) → Move
   EntersBack : (pushed : ℕ) → (notify no_answer : Bool) → Move
+  -- or takes it, drops its chain, the last one that was popped, and reports Back
+  EntersDropping : (no_answer : Bool) → Move
   -- a thread interrupts the driver, as `next` ordered
   Interrupts : Move
   -- the lock's holder makes the store that enables notifications
@@ -191,6 +193,8 @@ may_move r w (EntersWoken no_answer) =
 may_move r w (EntersBack pushed notify no_answer) =
     is_free w.turns.phase
     && (nat_lt 0 w.coming && (nat_le pushed w.out && (not no_answer || w.answered == 0)))
+may_move r w (EntersDropping no_answer) =
+    is_free w.turns.phase && (nat_lt 0 w.coming && (nat_lt 0 w.out && (not no_answer || w.answered == 0)))
 may_move r w Interrupts = nat_lt 0 w.interrupters
 may_move r w StoresWish = is_arming w.turns.phase && not w.stored
 may_move r w (Reports e fresh comes) =
@@ -218,6 +222,10 @@ after_move r w (EntersBack pushed notify no_answer) =
     reports_at r w.turns.phase
     (record w { coming = w.coming - 1; out = w.out - pushed; undelivered = w.undelivered || notify })
     (Back notify no_answer) false
+after_move r w (EntersDropping no_answer) =
+    reports_at r w.turns.phase
+    (record w { coming = w.coming - 1; position = back w.position 1; out = w.out - 1 })
+    (Back false no_answer) false
 after_move r w Interrupts = record w { interrupters = w.interrupters - 1; undelivered = false }
 after_move r w StoresWish = record w { stored = true; wish = w.position; hidden = true }
 after_move r w (Reports e fresh comes) = reports_at r w.turns.phase (done w e fresh) e comes

@@ -1,8 +1,8 @@
 //! The machine: its state, events and actions.
 
-ghost use Rattle.std.specs.Prelude.{◌≡◌, if◌then◌else◌};
+ghost use Rattle.std.specs.Prelude.{◌≡◌};
 ghost use Rattle.fs_turns.specs.Next.{arms, arms_to_answer, arms_to_sleep, begins, begun_turns, ends, enters};
-ghost use Rattle.fs_turns.specs.Next.{finds_none, is_free, reset_turns};
+ghost use Rattle.fs_turns.specs.Next.{after_reset, finds_none, is_free};
 ghost use Rattle.fs_turns.specs.Next.{hands_on, is_disabled, is_enabled_at, leaves, looks, muted, next, pops};
 ghost use Rattle.fs_turns.specs.Next.{rests};
 ghost use Rattle.fs_turns.specs.Next.{resumes, stays, wakes_one};
@@ -183,9 +183,7 @@ impl Turns {
     /// Signal the threads' event then, since chains may be available. Returns `false`, and changes
     /// nothing, while a thread has an action to perform under the lock.
     pub fn reset(&mut self, by_event: bool) -> bool
-        ensures turns {
-            self.new ≡ (if is_free self.old.phase then reset_turns self.old by_event else self.old)
-        }
+        ensures turns { self.new ≡ after_reset self.old by_event }
         ensures done { result ≡ is_free self.old.phase }
     {
         if !matches!(self.phase, TurnPhase::Free) {
