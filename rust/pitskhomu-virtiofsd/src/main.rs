@@ -16,6 +16,7 @@ mod options;
 mod paths;
 mod ring;
 mod serve;
+mod signals;
 mod socket;
 mod start;
 mod state;

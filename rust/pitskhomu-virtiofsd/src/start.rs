@@ -8,6 +8,7 @@ use crate::open_flags::OpenFlags;
 use crate::options::Options;
 use crate::paths;
 use crate::serve::{Core, Parts, QueueWorker, ServedFs};
+use crate::signals;
 use crate::socket::Socket;
 use crate::state;
 use crate::system_calls;
@@ -39,44 +40,6 @@ const OWN_MAPS: u64 = 500;
 /// With fewer descriptors for the guest there is a warning.
 const FEW_DESCRIPTORS: u64 = 128;
 const DAY: Duration = Duration::from_secs(24 * 60 * 60);
-
-extern "C" fn end(_signal: libc::c_int) {
-    // SAFETY: a signal handler may call _exit, which touches no memory.
-    unsafe { libc::_exit(0) }
-}
-
-/// The handler of SIGBUS: a page of the front-end's memory is gone, or the host's memory is faulty.
-/// A thread that accesses the page can't continue, and the daemon serves no other front-end.
-extern "C" fn end_for_lost_memory(_signal: libc::c_int) {
-    logger::write_at_the_end(
-        b"pitskhomu-virtiofsd: memory that the front-end lent is gone (SIGBUS), so nothing more \
-         can be served\n",
-    );
-    // SAFETY: a signal handler may call _exit, which touches no memory.
-    unsafe { libc::_exit(1) }
-}
-
-/// The daemon is the first process of its namespace, so without a handler it wouldn't receive
-/// SIGHUP, SIGINT and SIGTERM. SIGXFSZ is ignored, so that a write past `RLIMIT_FSIZE` is answered
-/// EFBIG. The process that started the daemon may have signals blocked, and SIGCHLD ignored: then
-/// the parent of the namespace would get no status of its child.
-fn handle_signals() {
-    let end = end as *const () as libc::sighandler_t;
-    let lost = end_for_lost_memory as *const () as libc::sighandler_t;
-    let ended = [libc::SIGHUP, libc::SIGINT, libc::SIGTERM].map(|signal| (signal, end));
-    let others =
-        [(libc::SIGBUS, lost), (libc::SIGXFSZ, libc::SIG_IGN), (libc::SIGCHLD, libc::SIG_DFL)];
-    for (signal, handler) in ended.into_iter().chain(others) {
-        // SAFETY: the handlers call only functions that a signal handler may call.
-        unsafe { libc::signal(signal, handler) };
-    }
-    let mut none = std::mem::MaybeUninit::uninit();
-    // SAFETY: the set is initialized by the first call, and the second one only reads it.
-    unsafe {
-        libc::sigemptyset(none.as_mut_ptr());
-        libc::sigprocmask(libc::SIG_SETMASK, none.as_ptr(), std::ptr::null_mut());
-    }
-}
 
 /// The time that the guest may cache names and attributes.
 fn timeout(cache: &CachePolicy) -> Duration {
@@ -207,7 +170,7 @@ fn log_build() {
 
 /// Serves the directory with these options, and returns when the front-end has disconnected.
 pub fn run(mut options: Options, logger: &Logger) -> Result<(), Failure> {
-    handle_signals();
+    signals::handle();
     log_build();
     let shared_dir =
         options.shared_dir.take().ok_or("missing \"--shared-dir\" or \"-o source\" option")?;

@@ -112,12 +112,13 @@ mod tests {
     use super::*;
     use crate::logger::Logger;
     use crate::options::{Options, Seccomp};
-    use crate::system_calls;
+    use crate::{signals, system_calls};
     use clap::Parser;
+    use libc::{c_int, SIGABRT, SIGSEGV};
     use std::hint::black_box;
     use std::os::unix::process::ExitStatusExt;
     use std::process::{Command, Stdio};
-    use std::thread;
+    use std::{ptr, thread};
 
     /// Names a death for the test below, in a process of its own.
     const DEATH: &str = "PITSKHOMU_DEATH";
@@ -152,6 +153,12 @@ mod tests {
                 // ends the process.
                 unsafe { libc::free((&raw const block[1]).cast_mut().cast()) };
             }
+            "fault" => {
+                // SAFETY: none. Nothing is mapped there.
+                unsafe { black_box(ptr::without_provenance::<u8>(1)).read_volatile() };
+            }
+            // SAFETY: no memory is touched. The list lacks it.
+            "call" => drop(black_box(unsafe { libc::getppid() })),
             _ => unreachable!("{death}"),
         }
     }
@@ -160,11 +167,13 @@ mod tests {
     #[test]
     fn a_death() {
         let Ok(death) = env::var(DEATH) else { return };
+        signals::handle();
         let words = ["daemon", "--socket-path=/s", "--shared-dir=/d"];
         let logger = Logger::new(&Options::parse_from(words)).expect("a log");
         lead().expect("standard error");
         let serving = thread::Builder::new().name("queue 1".into()).spawn(move || {
-            system_calls::limit(Seccomp::Kill, false).expect("a filter");
+            let action = if death == "call" { Seccomp::Trap } else { Seccomp::Kill };
+            system_calls::limit(action, false).expect("a filter");
             logger.start().expect("a thread");
             die(&death);
         });
@@ -180,27 +189,32 @@ mod tests {
         (ended.status.signal(), String::from_utf8_lossy(&ended.stderr).into_owned())
     }
 
+    const DEATHS: &[(&str, Option<c_int>, &[&str])] = &[
+        ("allocation", Some(SIGABRT), &["memory allocation of 70368744177664 bytes failed"]),
+        ("panic", Some(SIGABRT), &["the first panic", "the second panic", "queue 1: ", " ERROR "]),
+        ("stack", Some(SIGABRT), &["thread 'queue 1'", "has overflowed its stack"]),
+        ("heap", Some(SIGABRT), &["free(): invalid"]),
+        ("fault", Some(SIGSEGV), &["a fault (SIGSEGV)"]),
+        ("call", None, &["a system call that isn't in the list (SIGSYS): "]),
+    ];
+
     #[test]
     fn no_death_is_silent() {
-        for (death, words) in [
-            ("allocation", &["memory allocation of 70368744177664 bytes failed"] as &[_]),
-            ("panic", &["the first panic", "the second panic", "queue 1: ", " ERROR "]),
-            ("stack", &["thread 'queue 1'", "has overflowed its stack"]),
-            ("heap", &["free(): invalid"]),
-        ] {
-            let (signal, said) = die_alone(death, Stdio::piped());
-            assert_eq!(signal, Some(libc::SIGABRT), "{death}: {said}");
+        for (death, signal, words) in DEATHS {
+            let (ended, said) = die_alone(death, Stdio::piped());
+            assert_eq!(ended, *signal, "{death}: {said}");
             assert!(words.iter().all(|word| said.contains(word)), "{death}: {said}");
+            let number = format!(" {}\n", libc::SYS_getppid);
+            assert!(*death != "call" || said.ends_with(&number), "{said}");
         }
     }
 
     /// Nobody reads the log, and it is full.
     #[test]
     fn no_death_waits_for_a_reader() {
-        for death in ["allocation", "panic", "stack", "heap"] {
+        for (death, signal, _) in DEATHS {
             let (_reader, writer) = crate::notifier::tests::full_pipe(0);
-            let (signal, _) = die_alone(death, writer.into());
-            assert_eq!(signal, Some(libc::SIGABRT), "{death}");
+            assert_eq!(die_alone(death, writer.into()).0, *signal, "{death}");
         }
     }
 }
