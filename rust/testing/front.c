@@ -208,7 +208,7 @@ uint16_t front_stop_ring(struct front *front, size_t ring) {
 /* ------------------------------------------------------------- the back-end */
 
 void front_connect(struct front *front) {
-    enum { OPTIONS = 11, MOST = 16 };
+    enum { OPTIONS = 11, MOST = 48 };
     const char *threads = getenv("THREADS");
     const char *argv[MOST] = {front->server,
                               "--socket-path",

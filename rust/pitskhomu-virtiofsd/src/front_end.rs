@@ -4,6 +4,10 @@
 //!
 //! An error of kind `ReqHandlerError` is reported to the front-end, if it asked for a reply, and
 //! the daemon continues. After any other error the connection ends.
+mod handed;
+
+pub use handed::Agreed;
+
 use crate::marks::Log;
 use crate::memory::Table;
 use crate::migration::Migration;
@@ -33,6 +37,7 @@ pub struct FrontEnd<F> {
     core: Arc<Core<F>>,
     tag: Option<String>,
     features: u64,
+    protocol: u64,
     log: Option<Arc<Log>>,
     migration: Migration<F>,
     /// Enables the kicks of a ring that is stopped, enabled or disabled.
@@ -56,7 +61,7 @@ impl<F: ServedFs> FrontEnd<F> {
     pub fn new(core: Arc<Core<F>>, tag: Option<String>, scratch: File) -> io::Result<FrontEnd<F>> {
         let (migration, worker) =
             (Migration::new(core.clone(), scratch)?, QueueWorker::new(core.clone(), 0));
-        Ok(FrontEnd { core, tag, features: 0, log: None, migration, worker })
+        Ok(FrontEnd { core, tag, features: 0, protocol: 0, log: None, migration, worker })
     }
 
     /// The front-end is connected by this socket.
@@ -260,6 +265,7 @@ impl<F: ServedFs> VhostUserBackendReqHandlerMut for FrontEnd<F> {
 
     fn set_protocol_features(&mut self, features: u64) -> Result<()> {
         debug!("the front-end takes protocol features {features:#x}");
+        self.protocol = features;
         Ok(())
     }
 

@@ -8,7 +8,7 @@
 //! no miss while it waits for that thread.
 mod channel;
 mod mappings;
-mod messages;
+pub mod messages;
 
 use crate::memory::Table;
 use crate::ring::Ring;

@@ -14,6 +14,7 @@ mod notifier;
 mod open_flags;
 mod options;
 mod paths;
+mod replace;
 mod ring;
 mod serve;
 mod signals;

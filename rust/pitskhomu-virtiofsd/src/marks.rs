@@ -3,6 +3,7 @@
 //! reports each reply and each store in a ring before it notifies the driver.
 use std::fs::File;
 use std::io;
+use std::os::fd::OwnedFd;
 use std::sync::atomic::{AtomicBool, AtomicU8, Ordering};
 use std::sync::{Arc, OnceLock, PoisonError, RwLock};
 use vm_memory::bitmap::{Bitmap, BitmapSlice, WithBitmapSlice};
@@ -25,6 +26,12 @@ impl Log {
         let map =
             MmapRegion::from_file(FileOffset::new(file, offset), len).map_err(io::Error::other)?;
         Ok(Log { map })
+    }
+
+    /// The log's file, and the offset and length of the part that is mapped.
+    pub fn sent(&self) -> io::Result<(OwnedFd, u64, u64)> {
+        let file = self.map.file_offset().ok_or(io::ErrorKind::NotFound)?;
+        Ok((file.file().try_clone()?.into(), file.start(), self.map.size() as u64))
     }
 
     fn mark(&self, first: u64, last: u64) {

@@ -8,12 +8,14 @@ use pitskhomu::{GuestRange, GuestSlice, QueueLayout};
 use pitskhomu_vm_memory::MappedMemory;
 use std::fs::File;
 use std::io;
+use std::os::fd::OwnedFd;
 use std::os::unix::fs::MetadataExt;
 use std::sync::atomic::{AtomicU64, Ordering};
 use std::sync::Arc;
 use vhost::vhost_user::message::VhostUserMemoryRegion;
 use vm_memory::{
-    Bytes, GuestAddress, GuestMemoryMmap, GuestMemoryRegion, GuestRegionMmap, VolatileSlice,
+    Bytes, GuestAddress, GuestMemory, GuestMemoryMmap, GuestMemoryRegion, GuestRegionMmap,
+    VolatileSlice,
 };
 
 /// All numbers of a region are multiples of this.
@@ -140,6 +142,29 @@ impl Table {
             .iter()
             .find_map(|place| offset_in(place).map(|offset| place.guest + offset))
             .ok_or_else(|| invalid("an address outside the memory"))
+    }
+
+    /// The front-end's address for a guest address.
+    pub fn front_end_address(&self, guest: u64) -> io::Result<u64> {
+        let place = self.places.iter().find(|place| guest.wrapping_sub(place.guest) < place.len);
+        place
+            .map(|place| place.front_end.wrapping_add(guest - place.guest))
+            .ok_or_else(|| invalid("an address outside the memory"))
+    }
+
+    /// The regions as the front-end sent them, each with its file.
+    pub fn sent(&self) -> io::Result<Vec<(VhostUserMemoryRegion, OwnedFd)>> {
+        let file_of = |place: &Place| {
+            let region = self.mapped.memory().find_region(GuestAddress(place.guest));
+            let file = region.and_then(|region| region.file_offset());
+            file.ok_or_else(|| invalid("a region without a file"))?.file().try_clone()
+        };
+        let sent = self.places.iter().map(|place| {
+            let region =
+                VhostUserMemoryRegion::new(place.guest, place.len, place.front_end, place.offset);
+            Ok((region, file_of(place)?.into()))
+        });
+        sent.collect()
     }
 
     /// The guest's addresses for `len` bytes of the front-end's, piece by piece: `None` unless each
@@ -302,6 +327,23 @@ pub mod tests {
         assert!(bytes_at(0x5ffe, 3).is_none() && bytes_at(0x6000, 1).is_none());
         assert_eq!((table.ring_index(HIGH), table.ring_index(u64::MAX)), (Some(0x1234), None));
         assert_eq!(table.guest_address(0x7000_2008).ok(), Some(HIGH + 8));
+    }
+
+    #[test]
+    fn the_regions_are_sent_on_as_they_came() {
+        let table = table();
+        let sent = table.sent().expect("regions");
+        assert_eq!(sent.len(), 2);
+        let (regions, files): (Vec<_>, Vec<_>) = sent.into_iter().unzip();
+        let files: Vec<File> = files.into_iter().map(File::from).collect();
+        let again = Table::default().replaced(&regions, files).expect("a table");
+        let layout = QueueLayout { size: 64, descriptors: 0x4000, available: HIGH, used: 0x5000 };
+        assert!(table.agrees(&again, &layout) && again.has_parts(&layout));
+        for guest in [0x4000, 0x5fff, HIGH, HIGH + 0x1fff] {
+            let address = table.front_end_address(guest).expect("an address");
+            assert_eq!(again.guest_address(address).ok(), Some(guest));
+        }
+        assert!(table.front_end_address(0x6000).is_err() && table.front_end_address(0).is_err());
     }
 
     #[test]

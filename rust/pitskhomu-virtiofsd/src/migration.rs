@@ -32,6 +32,8 @@ type Turn = Mutex<()>;
 /// The file system's preparation, on a thread of its own.
 struct Preparation {
     done: Receiver<io::Result<()>>,
+    /// `done` has a result.
+    is_done: Arc<AtomicBool>,
     is_cancelled: Arc<AtomicBool>,
 }
 
@@ -46,6 +48,8 @@ pub struct Migration<F> {
     /// Ready when a transfer has ended, or the front-end has left.
     events: Epoll,
     has_ended: Arc<EventFd>,
+    /// Ready when a preparation has ended.
+    pub prepared: Arc<EventFd>,
 }
 
 /// A preparation or transfer has ended without a result.
@@ -124,7 +128,8 @@ fn save<F: ServedFs>(
 impl<F: ServedFs> Migration<F> {
     /// No migration.
     pub fn new(core: Arc<Core<F>>, scratch: File) -> io::Result<Migration<F>> {
-        let has_ended = EventFd::new(libc::EFD_NONBLOCK | libc::EFD_CLOEXEC)?;
+        let event = || EventFd::new(libc::EFD_NONBLOCK | libc::EFD_CLOEXEC);
+        let (has_ended, prepared) = (event()?, event()?);
         let events = Epoll::new()?;
         let ended = EpollEvent::new(EventSet::IN, ENDED);
         events.ctl(ControlOperation::Add, has_ended.as_raw_fd(), ended)?;
@@ -136,6 +141,7 @@ impl<F: ServedFs> Migration<F> {
             transfer: None,
             events,
             has_ended: Arc::new(has_ended),
+            prepared: Arc::new(prepared),
         })
     }
 
@@ -153,6 +159,8 @@ impl<F: ServedFs> Migration<F> {
         let is_cancelled: Arc<AtomicBool> = Arc::default();
         let (core, is_over, turn) = (self.core.clone(), is_cancelled.clone(), self.turn.clone());
         let (end, done) = sync_channel(1);
+        let is_done: Arc<AtomicBool> = Arc::default();
+        let (has_ended, event) = (is_done.clone(), self.prepared.clone());
         let spawned = spawn(move || {
             let prepared = take_turn(&turn).map(|_turn| {
                 if !is_over.load(Ordering::Relaxed) {
@@ -160,11 +168,24 @@ impl<F: ServedFs> Migration<F> {
                 }
             });
             let _ = end.try_send(prepared);
+            has_ended.store(true, Ordering::Release);
+            let _ = event.write(1);
         });
         match spawned {
-            Ok(()) => self.preparation = Some(Preparation { done, is_cancelled }),
+            Ok(()) => self.preparation = Some(Preparation { done, is_done, is_cancelled }),
             Err(e) => warn!("the state is prepared when the guest stops, without a thread: {e}"),
         }
+    }
+
+    /// Whether the state is prepared: `None` if there is no preparation.
+    pub fn is_prepared(&self) -> Option<bool> {
+        let _ = self.prepared.read();
+        Some(self.preparation.as_ref()?.is_done.load(Ordering::Acquire))
+    }
+
+    /// Whether a state is being saved or loaded.
+    pub fn is_under_way(&self) -> bool {
+        self.transfer.is_some()
     }
 
     /// Cancels the preparation, since the guest stays. Nobody waits for its end, but the next
@@ -216,6 +237,11 @@ impl<F: ServedFs> Migration<F> {
 
     /// Waits for the transfer, and returns its result. An error if the front-end leaves before.
     pub fn finish(&mut self) -> io::Result<()> {
+        self.finish_until(None)
+    }
+
+    /// The same, until then at most.
+    pub fn finish_until(&mut self, end: Option<Instant>) -> io::Result<()> {
         let transfer =
             self.transfer.take().ok_or_else(|| io::Error::other("no state was transferred"))?;
         loop {
@@ -225,7 +251,12 @@ impl<F: ServedFs> Migration<F> {
                 Err(TryRecvError::Empty) => {}
             }
             let mut events = [EpollEvent::default(); 2];
-            let count = match self.events.wait(-1, &mut events) {
+            let left = end.map(|end| end.saturating_duration_since(Instant::now()));
+            if left.is_some_and(|left| left.is_zero()) {
+                return Err(io::Error::other("the state isn't transferred in time"));
+            }
+            let left = left.map_or(-1, |left| left.as_millis().try_into().unwrap_or(i32::MAX));
+            let count = match self.events.wait(left, &mut events) {
                 Err(e) if e.kind() == io::ErrorKind::Interrupted => 0,
                 counted => counted?,
             };

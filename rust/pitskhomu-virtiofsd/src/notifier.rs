@@ -1,7 +1,7 @@
 //! Descriptors by which others are notified, and whether a descriptor can be written now.
 use std::fs::File;
 use std::io::{self, ErrorKind, Write};
-use std::os::fd::{AsRawFd, RawFd};
+use std::os::fd::{AsRawFd, OwnedFd, RawFd};
 use std::sync::{Mutex, PoisonError};
 use vmm_sys_util::epoll::{ControlOperation, Epoll, EpollEvent, EventSet};
 
@@ -46,6 +46,11 @@ impl Notifier {
         let blocks = flags & libc::O_NONBLOCK == 0;
         let room = if blocks { Room::new(file.as_raw_fd())?.map(Mutex::new) } else { None };
         Ok(Notifier { file, room })
+    }
+
+    /// Another descriptor of the same event.
+    pub fn descriptor(&self) -> io::Result<OwnedFd> {
+        self.file.try_clone().map(OwnedFd::from)
     }
 
     /// Notifies. A full descriptor is left as it is: who listens to it is notified all the same.

@@ -1,9 +1,11 @@
 //! The command line: virtiofsd's options, as far as they mean something here. A known option that
 //! isn't supported is refused with the reason.
 mod compat;
+mod listed;
 mod values;
 
 use clap::Parser;
+pub use listed::Listed;
 use std::os::fd::RawFd;
 use std::path::PathBuf;
 use std::sync::LazyLock;
@@ -38,13 +40,19 @@ pub struct Options {
     #[arg(long, required_unless_present_any = ["compat_options", "print_capabilities"])]
     pub shared_dir: Option<String>,
     /// The same as --socket-path [deprecated]
-    #[arg(long, required_unless_present_any = ["fd", "socket_path", "print_capabilities"])]
+    #[arg(
+        long,
+        required_unless_present_any = ["fd", "socket_path", "take_over", "print_capabilities"]
+    )]
     pub socket: Option<PathBuf>,
     /// The path of the socket that the front-end (QEMU) connects to
     ///
     /// The daemon makes the socket, and replaces an old one. It serves one front-end, and ends with
     /// it. SOCKET_PATH.pid has the daemon's process number, and stays locked while it runs.
-    #[arg(long, required_unless_present_any = ["fd", "socket", "print_capabilities"])]
+    #[arg(
+        long,
+        required_unless_present_any = ["fd", "socket", "take_over", "print_capabilities"]
+    )]
     pub socket_path: Option<PathBuf>,
     /// The group whose users may connect to the socket, besides its owner
     ///
@@ -57,10 +65,24 @@ pub struct Options {
     /// The process that starts the daemon passes it, in place of --socket-path.
     #[arg(
         long,
-        required_unless_present_any = ["socket", "socket_path", "print_capabilities"],
+        required_unless_present_any = ["socket", "socket_path", "take_over", "print_capabilities"],
         conflicts_with_all = ["socket_path", "socket"]
     )]
     pub fd: Option<RawFd>,
+    /// The path of a socket where another daemon can replace this one, with --take-over
+    ///
+    /// Only a process of this daemon's user may do so. The path must lie outside the shared
+    /// directory. A daemon that takes over keeps the socket.
+    #[arg(long)]
+    pub control_socket: Option<PathBuf>,
+    /// Replace the daemon that has this control socket, while its guest runs
+    ///
+    /// The new daemon needs the same version or a later one, the same directory, and the same
+    /// options, except those for names, logs, limits and migration. It takes over the socket of the
+    /// front-end, the control socket and the PID file, so --socket-path has no effect. If anything
+    /// fails, the old daemon continues, and this one ends with status 1.
+    #[arg(long)]
+    pub take_over: Option<PathBuf>,
     /// The tag that front-ends may ask for
     ///
     /// A tag has 1 to 36 bytes of UTF-8. Only with this option the daemon offers

@@ -6,6 +6,7 @@
 //! a while until none of the ring's chains is in flight (`waits`), and then closes the ring
 //! (`held`): `GET_VRING_BASE`, a ring that is disabled, and memory that maps or unmaps the ring's
 //! parts.
+mod handed;
 mod held;
 mod threads;
 mod waits;
@@ -14,6 +15,7 @@ use crate::in_flight::Doing;
 use crate::iommu::Cancel;
 use crate::memory::Table;
 use crate::notifier::Notifier;
+pub use handed::Handed;
 use log::warn;
 use pitskhomu::live::{Asked, Locked, Loop, Queued};
 use pitskhomu::{Popped as Taken, Queue, QueueLayout, Status};

@@ -1,6 +1,7 @@
 //! The socket that the front-end connects to, and the PID file next to it.
 use crate::options::Options;
 use crate::paths::check_folder;
+use crate::replace;
 use std::ffi::CString;
 use std::fs::{self, File, OpenOptions};
 use std::io::{self, Write};
@@ -88,9 +89,12 @@ fn passed(fd: RawFd) -> Result<UnixListener, String> {
 }
 
 impl Socket {
-    /// Makes the socket, or takes the one of --fd. From then on a front-end may connect. An error
-    /// is a message.
+    /// Makes the socket, or takes the one of --fd, or connects to the daemon of --take-over. From
+    /// then on a front-end may connect. An error is a message.
     pub fn open(options: &Options) -> Result<Socket, String> {
+        if let Some(path) = &options.take_over {
+            return Ok(Socket { listener: replace::connect(path)?, number: None });
+        }
         let path = options.socket_path.as_ref().or(options.socket.as_ref());
         let (listener, number) = match (path, options.fd) {
             (Some(path), _) => Socket::made(path, options.socket_group.as_deref())?,

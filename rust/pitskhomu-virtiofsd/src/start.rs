@@ -7,6 +7,7 @@ use crate::logger::{self, Logger};
 use crate::open_flags::OpenFlags;
 use crate::options::Options;
 use crate::paths;
+use crate::replace::{self, Control, Old, Record, Turn, Turns};
 use crate::serve::{Core, Parts, QueueWorker, ServedFs};
 use crate::signals;
 use crate::socket::Socket;
@@ -16,7 +17,9 @@ use log::{debug, error, info, warn, Level};
 use std::error::Error;
 use std::fs::{self, File};
 use std::io;
-use std::os::fd::{AsFd, AsRawFd};
+use std::os::fd::{AsFd, AsRawFd, FromRawFd};
+use std::os::unix::net::UnixStream;
+use std::path::Path;
 use std::sync::mpsc::{channel, Sender};
 use std::sync::{Arc, Mutex, PoisonError};
 use std::thread;
@@ -168,10 +171,8 @@ fn log_build() {
     log::log!(level, "the core: {build}");
 }
 
-/// Serves the directory with these options, and returns when the front-end has disconnected.
-pub fn run(mut options: Options, logger: &Logger) -> Result<(), Failure> {
-    signals::handle();
-    log_build();
+/// The directory of these options, which contradict neither each other nor the host.
+fn shared_dir(options: &mut Options) -> Result<String, Failure> {
     let shared_dir =
         options.shared_dir.take().ok_or("missing \"--shared-dir\" or \"-o source\" option")?;
     paths::check_shared(&shared_dir, options.sandbox)?;
@@ -182,22 +183,35 @@ pub fn run(mut options: Options, logger: &Logger) -> Result<(), Failure> {
         }
         return Err((*last).into());
     }
+    Ok(shared_dir)
+}
+
+/// Serves the directory with these options, and returns when the front-end has disconnected, or
+/// another daemon serves it.
+pub fn run(mut options: Options, logger: &Logger) -> Result<(), Failure> {
+    signals::handle();
+    log_build();
+    let shared_dir = shared_dir(&mut options)?;
     let capabilities = capabilities::Changes::new(&options)?;
     check_threads(&options)?;
     let guest_descriptors = guest_descriptors(&options)?;
+    let record = Record::new(&options, Path::new(&shared_dir))?;
     let (uid_map, gid_map) =
         (std::mem::take(&mut options.uid_map), std::mem::take(&mut options.gid_map));
     let sandboxed = Sandbox::new(shared_dir.clone(), options.sandbox, uid_map, gid_map);
     let mut sandbox = sandboxed.map_err(|e| format!("Error creating sandbox: {e}"))?;
     let scratch = state::scratch()?;
-    let Socket { listener, number: _number } = Socket::open(&options)?;
+    let Socket { listener, number } = Socket::open(&options)?;
+    let mut control = Control::new(&options, Path::new(&shared_dir), (record, number))?;
     let listener = sandbox
         .enter(listener)
         .map_err(|e| format!("Error entering sandbox: {shared_dir}: {}", sandbox_error(e)))?;
     fd_table::widen(scratch.as_fd()); // after the sandbox's fork, and before other threads
+    control.enter();
 
     let proc_self_fd = sandbox.get_proc_self_fd();
-    let serving = Serving::new(&mut options, listener, Kept { capabilities, scratch });
+    let kept = Kept { capabilities, scratch, control };
+    let serving = Serving::new(&mut options, listener, kept);
     let readonly = options.readonly;
     let config = config(options, &mut sandbox, proc_self_fd, guest_descriptors);
     if readonly {
@@ -211,6 +225,7 @@ pub fn run(mut options: Options, logger: &Logger) -> Result<(), Failure> {
 struct Kept {
     capabilities: capabilities::Changes,
     scratch: File,
+    control: Control,
 }
 
 /// The options and objects that serving needs besides the file system.
@@ -225,11 +240,14 @@ struct Serving {
     syslog: bool,
     flags: OpenFlags,
     always_agreed: pitskhomu::Options,
+    control: Control,
+    /// The listener is a connection to the daemon that this one takes over from.
+    takes_over: bool,
 }
 
 impl Serving {
     fn new(options: &mut Options, listener: Listener, kept: Kept) -> Serving {
-        let Kept { capabilities, scratch } = kept;
+        let Kept { capabilities, scratch, control } = kept;
         Serving {
             listener,
             scratch,
@@ -245,6 +263,8 @@ impl Serving {
                 writeback: options.writeback,
             },
             always_agreed: options.always_agreed(),
+            control,
+            takes_over: options.take_over.is_some(),
         }
     }
 
@@ -260,22 +280,53 @@ impl Serving {
         start_threads(&core)?;
         let front_end = FrontEnd::new(core.clone(), self.tag, self.scratch)?;
         let front_end = Arc::new(Mutex::new(front_end));
-        let mut listener = BackendListener::new(self.listener, front_end.clone())?;
-        info!("Waiting for vhost-user socket connection...");
-        let handler = loop {
-            if let Some(handler) = listener.accept()? {
-                break handler;
-            }
+        let (handler, old) = if self.takes_over {
+            let handler = connection(self.listener, front_end.clone());
+            let old = Old::say_ready(handler.as_raw_fd(), &self.control.record)?;
+            (handler, Some(old))
+        } else {
+            (accept(self.listener, front_end.clone(), &self.control)?, None)
         };
-        drop(listener); // a second front-end can't connect
-        info!("Client connected, servicing requests");
-        front_end.lock().unwrap_or_else(PoisonError::into_inner).connect(handler.as_raw_fd())?;
-        drop(front_end);
-        let ended = answer(handler, &core);
+        let socket = handler.as_raw_fd();
+        front_end.lock().unwrap_or_else(PoisonError::into_inner).connect(socket)?;
+        let mut turns = Turns::new(&front_end, self.control, socket, old)?;
+        let ended = answer(handler, &core, &mut turns);
+        if !turns.serves() {
+            return ended.and(Err("the old daemon has left".into()));
+        }
         core.wait_for_calls();
         info!("Client disconnected, shutting down");
         ended
     }
+}
+
+/// The connection to the daemon that this one takes over from.
+fn connection<F: ServedFs>(
+    listener: Listener,
+    front_end: Arc<Mutex<FrontEnd<F>>>,
+) -> BackendReqHandler<Mutex<FrontEnd<F>>> {
+    let fd = listener.as_raw_fd();
+    std::mem::forget(listener); // it is no listener, and has no path to remove
+                                // SAFETY: the descriptor is open, and owned from here on.
+    BackendReqHandler::from_stream(unsafe { UnixStream::from_raw_fd(fd) }, front_end)
+}
+
+/// Waits for the front-end. A second one can't connect.
+fn accept<F: ServedFs>(
+    listener: Listener,
+    front_end: Arc<Mutex<FrontEnd<F>>>,
+    control: &Control,
+) -> Result<BackendReqHandler<Mutex<FrontEnd<F>>>, Failure> {
+    info!("Waiting for vhost-user socket connection...");
+    replace::wait_for_front_end(listener.as_raw_fd(), control)?;
+    let mut listener = BackendListener::new(listener, front_end)?;
+    let handler = loop {
+        if let Some(handler) = listener.accept()? {
+            break handler;
+        }
+    };
+    info!("Client connected, servicing requests");
+    Ok(handler)
 }
 
 /// The message for a thread that can't start. The system gives one error for several limits.
@@ -327,13 +378,20 @@ fn start_thread<F: ServedFs>(
     Ok(())
 }
 
-/// Answers the front-end's messages until it disconnects.
+/// Answers the front-end's messages until it disconnects, or another daemon serves it.
 fn answer<F: ServedFs>(
     mut handler: BackendReqHandler<Mutex<FrontEnd<F>>>,
     core: &Core<F>,
+    turns: &mut Turns<'_, F>,
 ) -> Result<(), Failure> {
     let iommu = core.memory().iommu().clone();
     loop {
+        match turns.next() {
+            Ok(Turn::Message) => {}
+            Ok(Turn::Replaced) => return Ok(()),
+            Err(e) if turns.serves() => return Err(format!("the control socket: {e}").into()),
+            Err(e) => return Err(format!("the other daemon continues: {e}").into()),
+        }
         match iommu::answer_next(handler.as_raw_fd(), &iommu, || core.memory()) {
             Ok(iommu::Outcome::Answered) => continue,
             Ok(iommu::Outcome::Others) => {}

@@ -22,7 +22,8 @@ const OF_VIRTIOFSD: &str = "_llseek accept4 brk capget capset clock_gettime clon
 /// - `restart_syscall`: after SIGSTOP and SIGCONT, a freezer or a debugger the kernel continues
 ///   with it a wait that has a time limit (a futex: std's `recv_timeout`, `park_timeout`,
 ///   `wait_timeout`). virtiofsd has no such wait.
-/// - `dup3`: standard error leads nowhere for a moment (`logger::without_errors`).
+/// - `dup3`: standard error leads nowhere for a moment (`logger::without_errors`), and a daemon
+///   that replaces another goes on with the front-end's socket.
 /// - `pause`: std has a thread that begins or ends wait so while another reports that its stack has
 ///   overflowed, or ends the process.
 const OWN: &str = "restart_syscall dup3 pause";

@@ -30,6 +30,31 @@ impl<F: v::FileSystem> Adapter<'_, F> {
         self.call(call, drop)
     }
 
+    /// Lists the entries that fit, from an offset on. Returns whether there was one.
+    pub(super) fn list(
+        &self,
+        x: &Context,
+        node: p::Node,
+        read: &p::ReadDirectory,
+        list: &mut p::Listing<'_>,
+    ) -> Answer<bool> {
+        let size = u32::try_from(list.left()).unwrap_or(u32::MAX);
+        let mut found = self.host(|fs| {
+            fs.readdir(context(x), node.0.into(), read.handle.0.into(), size, read.offset)
+        })?;
+        let mut is_listed = false;
+        while let Some(entry) = v::DirectoryIterator::next(&mut found) {
+            is_listed = true;
+            let kind = p::FileKind(entry.type_);
+            let added = p::DirectoryEntry::new(entry.name, entry.ino, entry.offset, kind);
+            // `virtiofsd` looks each name up too, and not one that doesn't fit.
+            if !list.add_with(added, || p::FileSystem::lookup(self, x, node, entry.name))? {
+                break;
+            }
+        }
+        Ok(is_listed)
+    }
+
     fn forget_late(&self, made: &v::Entry) {
         self.fs.forget(context(&Context::default()), made.inode.into(), 1);
     }

@@ -90,6 +90,12 @@ struct Ask {
 }
 
 impl Ask {
+    /// One of the daemon before, in an epoch that this one doesn't have.
+    fn of_another() -> Ask {
+        let (access, answer) = (Access::None, Mutex::new(Answer::None));
+        Ask { page: 0, access, epoch: 0, sent: Instant::now(), answer }
+    }
+
     fn answer(&self) -> Answer {
         *self.answer.lock().unwrap_or_else(PoisonError::into_inner)
     }
@@ -115,6 +121,8 @@ struct State {
     events: Option<Arc<Epoll>>,
     /// No miss is sent until then.
     quiet: Option<Instant>,
+    /// Another daemon may take the channel over: nothing is read from it.
+    is_lent: bool,
 }
 
 /// The channel, if the front-end has one.
@@ -235,8 +243,17 @@ impl Channel {
 
     /// Misses go by this socket from here on.
     pub fn set(self: &Arc<Channel>, socket: OwnedFd) -> io::Result<()> {
+        self.set_with(socket, |_| {})
+    }
+
+    fn set_with(
+        self: &Arc<Channel>,
+        socket: OwnedFd,
+        expect: impl FnOnce(&mut State),
+    ) -> io::Result<()> {
         let mut state = self.lock();
         state.lose();
+        expect(&mut state);
         if state.events.is_none() {
             let events = Arc::new(Epoll::new()?);
             let (channel, heard) = (self.clone(), events.clone());
@@ -252,6 +269,44 @@ impl Channel {
         Ok(())
     }
 
+    /// The channel for a daemon that may take it over: another descriptor of its socket, and how
+    /// many asks the front-end hasn't answered yet. Nothing is read until `take_back`.
+    pub fn lend(&self) -> io::Result<Option<(OwnedFd, usize)>> {
+        let mut state = self.lock();
+        let Some(socket) = &state.socket else { return Ok(None) };
+        if !state.part.is_empty() {
+            return Err(io::Error::other("a part of the IOMMU's answer is still to come"));
+        }
+        if let Some(events) = &state.events {
+            let none = EpollEvent::default();
+            events.ctl(ControlOperation::Delete, socket.as_raw_fd(), none)?;
+        }
+        let lent = (socket.try_clone()?, state.asked.len());
+        state.is_lent = true;
+        Ok(Some(lent))
+    }
+
+    /// The other daemon doesn't take it over.
+    pub fn take_back(&self) -> io::Result<()> {
+        let mut state = self.lock();
+        if std::mem::take(&mut state.is_lent) {
+            if let (Some(socket), Some(events)) = (&state.socket, &state.events) {
+                let event = EpollEvent::new(EventSet::IN, 0);
+                events.ctl(ControlOperation::Add, socket.as_raw_fd(), event)?;
+            }
+        }
+        Ok(())
+    }
+
+    /// Takes over the channel of another daemon, to whose last `unanswered` asks the front-end's
+    /// answers are still to come: nobody waits for them here.
+    pub fn adopt(self: &Arc<Channel>, socket: OwnedFd, unanswered: usize) -> io::Result<()> {
+        self.set_with(socket, |state| {
+            let asks = (0..unanswered.min(MOST_UNANSWERED)).map(|_| Arc::new(Ask::of_another()));
+            state.asked.extend(asks);
+        })
+    }
+
     /// What the reading thread does; it ends with the process.
     fn listen(&self, events: &Epoll) {
         loop {
@@ -265,6 +320,9 @@ impl Channel {
                 Ok(_) => {}
             }
             let mut state = self.lock();
+            if state.is_lent {
+                continue; // `lend` has removed the socket from the events
+            }
             if let Err(e) = state.read() {
                 debug!("the back-end's channel has ended: {e}");
                 state.lose();
@@ -398,8 +456,58 @@ impl<'m> Asking<'m> {
 #[cfg(test)]
 mod tests {
     use super::*;
-    use std::io::Read;
+    use std::io::{Read, Write};
     use std::os::unix::net::UnixStream;
+
+    /// A daemon that is replaced while an ask is unanswered: the next one ignores that answer.
+    #[test]
+    fn another_daemon_ignores_answers_to_the_one_before() {
+        let (old, new) = (Arc::new(Channel::default()), Arc::new(Channel::default()));
+        let (ours, mut theirs) = UnixStream::pair().expect("a channel");
+        let answer = |good: u64| {
+            let head = Head { request: BACKEND_IOTLB_MSG, flags: flags::REPLY, size: 8 };
+            [&head.bytes()[..], &good.to_ne_bytes()].concat()
+        };
+        let misses = [Miss { iova: 0x5000, len: 0x1000, access: Access::Read }];
+        new.begin();
+        old.set(ours.into()).expect("a channel");
+        let cancel = Cancel::default();
+        thread::scope(|scope| {
+            let asks = scope.spawn(|| old.ask(&misses, &cancel, |_| false));
+            theirs.read_exact(&mut [0; HEAD_LEN + IotlbBody::LEN]).expect("an ask");
+            old.cancel(&cancel);
+            assert_eq!(asks.join().expect("an end"), None);
+        });
+        let (socket, unanswered) = old.lend().expect("lent").expect("a channel");
+        assert_eq!(unanswered, 1);
+        theirs.write_all(&answer(1)).expect("an answer to the old one"); // a refusal
+        thread::sleep(QUIET / 4);
+        assert_eq!(old.lock().asked.len(), 1, "a lent channel is read");
+        new.adopt(socket, unanswered).expect("taken over");
+        thread::scope(|scope| {
+            let asks = scope.spawn(|| new.ask(&misses, &Cancel::default(), |_| false));
+            theirs.read_exact(&mut [0; HEAD_LEN + IotlbBody::LEN]).expect("an ask");
+            theirs.write_all(&answer(0)).expect("an answer");
+            assert_eq!(asks.join().expect("an end"), Some(Vec::new()), "another's refusal");
+        });
+        assert!(new.lock().asked.is_empty() && new.lock().socket.is_some());
+    }
+
+    #[test]
+    fn a_channel_that_comes_back_is_read_again() {
+        let channel = Arc::new(Channel::default());
+        let (ours, theirs) = UnixStream::pair().expect("a channel");
+        channel.set(ours.into()).expect("a channel");
+        drop(channel.lend().expect("lent"));
+        channel.take_back().expect("taken back");
+        drop(theirs);
+        let end = Instant::now() + PATIENCE;
+        while channel.lock().socket.is_some() {
+            assert!(Instant::now() < end, "the end isn't seen");
+            thread::sleep(QUIET / 20);
+        }
+        assert!(channel.lend().expect("none").is_none());
+    }
 
     #[test]
     fn nothing_is_asked_while_the_device_stops() {

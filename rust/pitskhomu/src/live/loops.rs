@@ -179,6 +179,14 @@ impl<Q> DerefMut for Locked<Q> {
     }
 }
 
+impl<Q> Locked<Q> {
+    /// The descriptor of the driver's event, unless it was removed.
+    #[must_use]
+    pub fn kick(&self) -> Option<&File> {
+        self.kick.as_ref()
+    }
+}
+
 impl<Q: Queued> Locked<Q> {
     /// Enables or disables notifications of the driver by `set`, unless memory has this setting
     /// already. Returns whether something was stored: then a chain may have become available

@@ -1,0 +1,114 @@
+//! A front-end that another daemon takes over.
+use super::FrontEnd;
+use crate::ring::Patience;
+use crate::serve::{Core, ServedFs};
+use std::fs::File;
+use std::io;
+use std::os::fd::{AsRawFd, OwnedFd, RawFd};
+use std::sync::Arc;
+use std::time::Instant;
+use vhost::vhost_user::message::VhostUserVirtioFeatures;
+
+/// What the front-end has agreed on.
+#[derive(Debug)]
+pub struct Agreed {
+    /// The device's features, without that of a log; 0 if the device never began.
+    pub features: u64,
+    /// The protocol's features.
+    pub protocol: u64,
+    /// The log of written pages: its file, offset and length, while the guest migrates.
+    pub log: Option<(OwnedFd, u64, u64)>,
+    /// Pages are to be logged.
+    pub logs: bool,
+}
+
+impl<F: ServedFs> FrontEnd<F> {
+    /// The device that it uses.
+    pub fn core(&self) -> &Arc<Core<F>> {
+        &self.core
+    }
+
+    /// What it has agreed on.
+    pub fn agreed(&self) -> io::Result<Agreed> {
+        let log = self.log.as_ref().map(|log| log.sent()).transpose()?;
+        let features = self.features & !VhostUserVirtioFeatures::LOG_ALL.bits();
+        Ok(Agreed { features, protocol: self.protocol, log, logs: self.logs() })
+    }
+
+    /// Why the daemon can't be replaced now, if so.
+    pub fn keeps_daemon(&self) -> Option<&'static str> {
+        let protocol = VhostUserVirtioFeatures::PROTOCOL_FEATURES.bits();
+        if self.migration.is_under_way() {
+            return Some("a state is being saved or loaded: try it again after that");
+        }
+        let is_old = self.features != 0 && self.features & protocol == 0;
+        is_old.then_some("its front-end lacks the protocol's features")
+    }
+
+    /// The event that a prepared state has.
+    pub fn prepared(&self) -> RawFd {
+        self.migration.prepared.as_raw_fd()
+    }
+
+    /// Begins to prepare the state, unless it is prepared already.
+    pub fn prepare(&mut self) {
+        self.migration.prepare();
+    }
+
+    /// Whether the state is prepared: `None` if nobody prepares it any more.
+    pub fn is_prepared(&self) -> Option<bool> {
+        self.migration.is_prepared()
+    }
+
+    /// The guest stays. If it migrates, its state is prepared for that.
+    pub fn stay(&mut self) {
+        if self.logs() {
+            self.migration.prepare();
+        } else {
+            self.migration.cancel();
+        }
+    }
+
+    /// Disables these rings. Returns the calls that the host holds, if it holds some.
+    pub fn stop_rings(&mut self, is_enabled: &[bool]) -> Option<String> {
+        let (memory, patience) = (self.core.memory(), Patience::new());
+        for (ring, _) in
+            self.core.rings.iter().zip(is_enabled).filter(|(_, is_enabled)| **is_enabled)
+        {
+            ring.enable(false, &mut self.worker, &memory, patience);
+        }
+        self.core.held_calls()
+    }
+
+    /// Enables them again.
+    pub fn restart_rings(&mut self, is_enabled: &[bool]) {
+        let memory = self.core.memory();
+        for (ring, _) in
+            self.core.rings.iter().zip(is_enabled).filter(|(_, is_enabled)| **is_enabled)
+        {
+            ring.enable(true, &mut self.worker, &memory, Patience::new());
+        }
+    }
+
+    /// Saves the state to a file, and returns its length. The rings are disabled.
+    pub fn save(&mut self, pipe: &File, end: Instant) -> io::Result<u64> {
+        use std::io::Seek;
+        let mut pipe = pipe;
+        pipe.set_len(0)?;
+        pipe.rewind()?;
+        self.migration.save(pipe.try_clone()?);
+        self.migration.finish_until(Some(end))?;
+        let len = pipe.stream_position()?;
+        pipe.rewind()?;
+        Ok(len)
+    }
+
+    /// Takes over from another daemon: bits say which rings ran there, and which were refused.
+    pub fn adopt(&mut self, is_enabled: u64, is_refused: u64) {
+        let memory = self.core.memory();
+        for (index, ring) in self.core.rings.iter().enumerate() {
+            let has = |bits: u64| bits >> index & 1 != 0;
+            ring.adopt((has(is_enabled), has(is_refused)), &mut self.worker, &memory);
+        }
+    }
+}

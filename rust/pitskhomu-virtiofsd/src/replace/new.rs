@@ -1,0 +1,136 @@
+//! The new daemon: is ready, answers the old one's messages as a front-end's, and takes over.
+use super::take::Take;
+use super::wire::{receive, send};
+use super::{Control, Own, Record};
+use crate::front_end::FrontEnd;
+use crate::iommu::messages::{self, Head, HEAD_LEN};
+use crate::serve::ServedFs;
+use log::warn;
+use std::io::{self, IoSliceMut};
+use std::os::fd::{AsRawFd, FromRawFd, OwnedFd, RawFd};
+
+/// The longest reason of a refusal that is logged.
+const REASON_MAX: usize = 4096;
+
+/// The old daemon, at the other end of the connection that crate vhost reads.
+#[derive(Debug, Clone, Copy)]
+pub struct Old(RawFd);
+
+/// What the old daemon has decided on.
+enum Word {
+    Go,
+    Refused(String),
+    /// It died after it had offered all.
+    Dead,
+}
+
+impl Old {
+    /// Says that this daemon is ready to take over.
+    pub fn say_ready(socket: RawFd, record: &Record) -> io::Result<Old> {
+        send(socket, &record.ready()?, &[])?;
+        Ok(Old(socket))
+    }
+
+    /// Waits for the next message. `false` if it is a front-end's, which is left there. Else this
+    /// daemon has taken over, and the connection is the front-end's own.
+    pub fn next<F: ServedFs>(
+        self,
+        front_end: &mut FrontEnd<F>,
+        control: &mut Control,
+    ) -> io::Result<bool> {
+        let mut head = [0; HEAD_LEN];
+        let peeked = messages::receive(self.0, &mut [IoSliceMut::new(&mut head)], libc::MSG_PEEK)?;
+        if peeked == 0 {
+            return Err(io::Error::other("the old daemon has ended or left"));
+        }
+        match (peeked, Own::of(Head::of(&head).request)) {
+            (HEAD_LEN, Some(Own::Take)) => self.take(front_end, control).map(|()| true),
+            (HEAD_LEN, Some(Own::Refused)) => match word(self.0)? {
+                Word::Refused(why) => Err(io::Error::other(why)),
+                _ => Err(io::Error::other("the old daemon has left")),
+            },
+            _ => Ok(false),
+        }
+    }
+
+    fn take<F: ServedFs>(
+        self,
+        front_end: &mut FrontEnd<F>,
+        control: &mut Control,
+    ) -> io::Result<()> {
+        let mut bytes = [0; HEAD_LEN + Take::LEN];
+        let received = receive(self.0, &mut bytes, 0)?;
+        let words: &[u8; Take::LEN] = bytes[HEAD_LEN..].try_into().map_err(io::Error::other)?;
+        let (take, mut fds) = (Take::of(words), received.fds.into_iter());
+        let mut sent = |is_sent: bool| if is_sent { fds.next() } else { None };
+        let socket = sent(received.len == bytes.len());
+        let socket = socket.ok_or_else(|| io::Error::other("TAKE without the front-end"))?;
+        let [listener, number, channel] =
+            [Take::CONTROL, Take::NUMBER, Take::CHANNEL].map(|bit| sent(take.with & bit != 0));
+        let old = replace(self.0, &socket)?;
+        drop(socket);
+        front_end.connect(self.0)?;
+        send(
+            old.as_raw_fd(),
+            &Head { request: Own::Taken as u32, flags: 0, size: 0 }.bytes(),
+            &[],
+        )?;
+        match word(old.as_raw_fd())? {
+            Word::Go => {}
+            Word::Dead => warn!("the old daemon died, and this one serves"),
+            Word::Refused(why) => return Err(io::Error::other(why)),
+        }
+        (control.listener, control.number) = (listener, number.map(Into::into));
+        if let Err(e) = control.write_number() {
+            warn!("the PID file has the old daemon's number: {e}");
+        }
+        if let Some(channel) = channel {
+            #[allow(clippy::cast_possible_truncation, reason = "there are few")]
+            let unanswered = take.unanswered as usize;
+            let memory = front_end.core().memory();
+            if let Err(e) = memory.iommu().channel.adopt(channel, unanswered) {
+                warn!("the back-end's channel: {e}");
+            }
+        }
+        front_end.adopt(take.enabled, take.refused);
+        Ok(())
+    }
+}
+
+/// Gives the front-end's socket the number of the connection to the old daemon, which gets another:
+/// crate vhost goes on with that number, and with the features that were agreed on.
+fn replace(number: RawFd, socket: &OwnedFd) -> io::Result<OwnedFd> {
+    // SAFETY: no memory is touched. The number's owner, crate vhost, only uses it.
+    let (old, replaced) = unsafe {
+        let old = libc::fcntl(number, libc::F_DUPFD_CLOEXEC, 0);
+        if old < 0 {
+            return Err(io::Error::last_os_error());
+        }
+        let replaced = libc::dup3(socket.as_raw_fd(), number, libc::O_CLOEXEC);
+        (OwnedFd::from_raw_fd(old), replaced)
+    };
+    if replaced < 0 {
+        return Err(io::Error::last_os_error());
+    }
+    Ok(old)
+}
+
+/// Waits for the old daemon's decision.
+fn word(old: RawFd) -> io::Result<Word> {
+    let mut head = [0; HEAD_LEN];
+    match receive(old, &mut head, libc::MSG_WAITALL) {
+        Ok(received) if received.len == HEAD_LEN => {}
+        Err(e) if e.kind() == io::ErrorKind::Interrupted => return word(old),
+        _ => return Ok(Word::Dead),
+    }
+    let head = Head::of(&head);
+    match Own::of(head.request) {
+        Some(Own::Go) => Ok(Word::Go),
+        Some(Own::Refused) => {
+            let mut why = vec![0; (head.size as usize).min(REASON_MAX)];
+            let read = receive(old, &mut why, libc::MSG_WAITALL)?.len;
+            Ok(Word::Refused(String::from_utf8_lossy(&why[..read]).into_owned()))
+        }
+        _ => Err(io::Error::other("a message that can't come now")),
+    }
+}

@@ -1,0 +1,235 @@
+//! The old daemon: gives all to the one that takes over. Whatever fails, it enables its rings again
+//! and continues.
+use super::successor::Successor;
+use super::take::Take;
+use super::{Control, PATIENCE, PATIENCE_BYTES};
+use crate::front_end::{Agreed, FrontEnd};
+use crate::memory::Table;
+use crate::ring::{Handed, Ring};
+use crate::serve::{Core, ServedFs};
+use log::info;
+use std::io;
+use std::os::fd::{AsRawFd, OwnedFd, RawFd};
+use std::sync::Arc;
+use std::time::Instant;
+use vhost::vhost_user::message::{FrontendReq, VhostUserMemoryRegion, VhostUserProtocolFeatures};
+
+/// So many regions fit in one message.
+const REGIONS: usize = 8;
+
+/// Says to a daemon why it doesn't take over.
+pub fn refuse(socket: OwnedFd, why: &str) {
+    if let Ok(successor) = Successor::new(socket, Instant::now()) {
+        successor.refuse(why);
+    }
+}
+
+/// One daemon gives, and another takes.
+struct Giving<'g, F> {
+    front_end: &'g mut FrontEnd<F>,
+    core: Arc<Core<F>>,
+    control: &'g Control,
+    /// The front-end's socket.
+    socket: RawFd,
+    to: Successor,
+    rings: Vec<Handed>,
+    agreed: Agreed,
+}
+
+/// Gives all to the daemon at the other end of `heir`. After `Ok` this one may only end.
+pub fn give<F: ServedFs>(
+    front_end: &mut FrontEnd<F>,
+    control: &Control,
+    (socket, heir): (RawFd, OwnedFd),
+) -> io::Result<()> {
+    let begun = Instant::now();
+    let core = front_end.core().clone();
+    let to = Successor::new(heir, begun + PATIENCE)?;
+    let agreed = front_end.agreed()?;
+    let rings = core.rings.iter().map(Ring::handed).collect::<io::Result<_>>()?;
+    let mut giving = Giving { front_end, core, control, socket, to, rings, agreed };
+    let given = giving.run(begun);
+    if let Err(why) = &given {
+        giving.front_end.stay();
+        giving.to.refuse(&why.to_string());
+    }
+    given
+}
+
+/// A ring's index and a number, as `SET_VRING_NUM` has them.
+fn pair(index: usize, number: impl Into<u64>) -> u64 {
+    index as u64 | number.into() << 32
+}
+
+/// The body of a message about one region, or about one of several.
+fn region_words(region: &VhostUserMemoryRegion) -> [u64; 4] {
+    [region.guest_phys_addr, region.memory_size, region.user_addr, region.mmap_offset]
+}
+
+impl<F: ServedFs> Giving<'_, F> {
+    fn run(&mut self, begun: Instant) -> io::Result<()> {
+        let memory = self.core.memory();
+        self.agree()?;
+        self.send_memory(&memory)?;
+        for index in 0..self.rings.len() {
+            self.send_ring(index, &memory)?;
+        }
+        let is_enabled: Vec<bool> = self.rings.iter().map(|ring| ring.is_enabled).collect();
+        let stops = Instant::now();
+        let moved = match self.front_end.stop_rings(&is_enabled) {
+            None => self.move_state().and_then(|()| self.offer()).and_then(|()| self.to.go()),
+            Some(held) => {
+                let why = format!("the host holds a call of the guest's: {held}");
+                Err(io::Error::other(why))
+            }
+        };
+        if moved.is_err() {
+            self.core.memory().iommu().channel.take_back()?;
+            self.front_end.restart_rings(&is_enabled);
+            return moved;
+        }
+        let ms = |from: Instant, to: Instant| (to - from).as_secs_f64() * 1e3;
+        let (paused, told) = (ms(stops, Instant::now()), ms(begun, stops));
+        info!("another daemon serves the guest: {told:.1} ms of messages, {paused:.1} ms of pause");
+        self.to.set_end(Instant::now() + PATIENCE);
+        self.to.wait_for_end();
+        Ok(())
+    }
+
+    /// Features: all of the protocol's that the new daemon has, for the messages to come.
+    fn agree(&self) -> io::Result<()> {
+        let lacks = |offered: u64, wanted: u64| {
+            let lack = wanted & !offered;
+            if lack == 0 {
+                return Ok(());
+            }
+            Err(io::Error::other(format!("the new daemon lacks features {lack:#x}")))
+        };
+        lacks(self.to.ask(FrontendReq::GET_FEATURES, &[], &[])?, self.agreed.features)?;
+        let protocol = self.to.ask(FrontendReq::GET_PROTOCOL_FEATURES, &[], &[])?;
+        let needed = VhostUserProtocolFeatures::REPLY_ACK
+            | VhostUserProtocolFeatures::CONFIGURE_MEM_SLOTS
+            | VhostUserProtocolFeatures::LOG_SHMFD
+            | VhostUserProtocolFeatures::DEVICE_STATE;
+        lacks(protocol, self.agreed.protocol | needed.bits())?;
+        self.to.tell(FrontendReq::SET_PROTOCOL_FEATURES, &[protocol], &[])?;
+        self.to.tell(FrontendReq::SET_OWNER, &[], &[])?;
+        if self.agreed.features != 0 {
+            self.to.tell(FrontendReq::SET_FEATURES, &[self.agreed.features], &[])?;
+        }
+        Ok(())
+    }
+
+    fn send_memory(&self, memory: &Table) -> io::Result<()> {
+        let regions = memory.sent()?;
+        if regions.len() > REGIONS {
+            return regions.iter().try_for_each(|(region, file)| {
+                let [guest, len, user, offset] = region_words(region);
+                let words = [0, guest, len, user, offset];
+                self.to.tell(FrontendReq::ADD_MEM_REG, &words, &[file.as_raw_fd()])
+            });
+        }
+        if regions.is_empty() {
+            return Ok(());
+        }
+        let mut words = vec![regions.len() as u64];
+        words.extend(regions.iter().flat_map(|(region, _)| region_words(region)));
+        let files: Vec<RawFd> = regions.iter().map(|(_, file)| file.as_raw_fd()).collect();
+        self.to.tell(FrontendReq::SET_MEM_TABLE, &words, &files)
+    }
+
+    /// All of a ring that doesn't change while the guest runs. The front-end sends a ring that
+    /// isn't started again before it starts it.
+    fn send_ring(&self, index: usize, memory: &Table) -> io::Result<()> {
+        let ring = &self.rings[index];
+        if ring.is_started {
+            let layout = ring.numbers.layout;
+            let has_iommu = memory.iommu().is_on();
+            let at = |guest| if has_iommu { Ok(guest) } else { memory.front_end_address(guest) };
+            let parts = [at(layout.descriptors)?, at(layout.used)?, at(layout.available)?];
+            self.to.tell(FrontendReq::SET_VRING_NUM, &[pair(index, layout.size)], &[])?;
+            let words = [pair(index, 0u32), parts[0], parts[1], parts[2], 0];
+            self.to.tell(FrontendReq::SET_VRING_ADDR, &words, &[])?;
+        }
+        let events =
+            [(FrontendReq::SET_VRING_CALL, &ring.call), (FrontendReq::SET_VRING_ERR, &ring.err)];
+        for (request, event) in events {
+            if let Some(event) = event {
+                self.to.tell(request, &[index as u64], &[event.as_raw_fd()])?;
+            }
+        }
+        Ok(())
+    }
+
+    /// Positions, events, and the state, while the rings are disabled. Whether pages are logged is
+    /// said after the state: the new daemon then prepares its own for the migration.
+    fn move_state(&mut self) -> io::Result<()> {
+        self.to.set_end(Instant::now() + PATIENCE);
+        for index in 0..self.rings.len() {
+            self.start_ring(index)?;
+        }
+        let len = self.front_end.save(&self.control.pipe, Instant::now() + PATIENCE)?;
+        #[allow(clippy::cast_possible_truncation, reason = "a state has at most 1 GB")]
+        let longer = PATIENCE * (len / PATIENCE_BYTES) as u32;
+        self.to.set_end(Instant::now() + PATIENCE + longer);
+        let load = [1u32.to_ne_bytes(), 0u32.to_ne_bytes()].concat();
+        let set = self.to.ask(
+            FrontendReq::SET_DEVICE_STATE_FD,
+            &load,
+            &[self.control.pipe.as_raw_fd()],
+        )?;
+        if set & 0xff != 0 || self.to.ask(FrontendReq::CHECK_DEVICE_STATE, &[], &[])? != 0 {
+            return Err(io::Error::other("the new daemon can't load the state: its log says why"));
+        }
+        let Agreed { features, protocol, log, logs } = &self.agreed;
+        if let Some((file, offset, len)) = log {
+            self.to.repeat(FrontendReq::SET_LOG_BASE, &[*len, *offset], &[file.as_raw_fd()])?;
+        }
+        if *logs {
+            let log_all = vhost::vhost_user::message::VhostUserVirtioFeatures::LOG_ALL.bits();
+            self.to.tell(FrontendReq::SET_FEATURES, &[features | log_all], &[])?;
+        }
+        // Now those of the front-end. It may lack acknowledgements, so none is asked for.
+        let words: Vec<u8> = protocol.to_ne_bytes().into();
+        self.to.say(FrontendReq::SET_PROTOCOL_FEATURES as u32, &words, &[])?;
+        self.to.ask(FrontendReq::GET_FEATURES, &[], &[]).map(|_| ())
+    }
+
+    fn start_ring(&self, index: usize) -> io::Result<()> {
+        let now = self.core.rings[index].handed()?;
+        if !now.is_started {
+            return Ok(());
+        }
+        let Some(kick) = now.kick else {
+            return Err(io::Error::other(format!("queue {index} has no event of the driver's")));
+        };
+        let base = pair(index, now.numbers.next_avail);
+        self.to.tell(FrontendReq::SET_VRING_BASE, &[base], &[])?;
+        self.to.tell(FrontendReq::SET_VRING_KICK, &[index as u64], &[kick.as_raw_fd()])
+    }
+
+    /// Offers all that the front-end must not see close.
+    fn offer(&mut self) -> io::Result<()> {
+        let mut take = Take::default();
+        let mut fds = vec![self.socket];
+        for (index, ring) in self.core.rings.iter().enumerate() {
+            take.enabled |= u64::from(self.rings[index].is_enabled) << index;
+            take.refused |= u64::from(ring.handed()?.is_refused) << index;
+        }
+        let channel = self.core.memory().iommu().channel.lend()?;
+        let (socket, unanswered) = channel.unzip();
+        take.unanswered = unanswered.unwrap_or(0) as u64;
+        for (fd, bit) in [
+            (self.control.listener.as_ref().map(AsRawFd::as_raw_fd), Take::CONTROL),
+            (self.control.number.as_ref().map(AsRawFd::as_raw_fd), Take::NUMBER),
+            (socket.as_ref().map(AsRawFd::as_raw_fd), Take::CHANNEL),
+        ] {
+            if let Some(fd) = fd {
+                fds.push(fd);
+                take.with |= bit;
+            }
+        }
+        self.to.set_end(Instant::now() + PATIENCE);
+        self.to.offer(&take.words(), &fds)
+    }
+}

@@ -1,0 +1,161 @@
+//! The turns of the front-end's thread: messages of the front-end, and those of daemons that take
+//! over.
+use super::old::{give, refuse};
+use super::{Control, Next, Old, Record, Waits};
+use crate::front_end::FrontEnd;
+use crate::serve::ServedFs;
+use log::{info, warn};
+use std::io;
+use std::os::fd::{OwnedFd, RawFd};
+use std::sync::{Mutex, MutexGuard, PoisonError};
+
+/// What the thread does next.
+#[derive(Debug, PartialEq, Eq)]
+pub enum Turn {
+    /// It reads the front-end's next message.
+    Message,
+    /// It ends: another daemon serves.
+    Replaced,
+}
+
+/// The thread's waits.
+pub struct Turns<'t, F> {
+    front_end: &'t Mutex<FrontEnd<F>>,
+    control: Control,
+    socket: RawFd,
+    /// The daemon that this one takes over from, until it has.
+    old: Option<Old>,
+    waits: Option<Waits>,
+}
+
+impl<'t, F: ServedFs> Turns<'t, F> {
+    /// The turns of a daemon whose front-end has this socket.
+    pub fn new(
+        front_end: &'t Mutex<FrontEnd<F>>,
+        control: Control,
+        socket: RawFd,
+        old: Option<Old>,
+    ) -> io::Result<Turns<'t, F>> {
+        let mut turns = Turns { front_end, control, socket, old, waits: None };
+        if old.is_none() {
+            turns.begin()?;
+        }
+        Ok(turns)
+    }
+
+    fn begin(&mut self) -> io::Result<()> {
+        let prepared = self.front_end().prepared();
+        self.waits = Waits::new(&self.control, self.socket, Some(prepared))?;
+        Ok(())
+    }
+
+    fn front_end(&self) -> MutexGuard<'t, FrontEnd<F>> {
+        self.front_end.lock().unwrap_or_else(PoisonError::into_inner)
+    }
+
+    /// Whether this daemon serves the guest.
+    pub fn serves(&self) -> bool {
+        self.old.is_none()
+    }
+
+    /// Waits for the next turn.
+    pub fn next(&mut self) -> io::Result<Turn> {
+        if let Some(old) = self.old {
+            if !old.next(&mut self.front_end(), &mut self.control)? {
+                return Ok(Turn::Message);
+            }
+            info!("the guest is taken over from another daemon");
+            self.old = None;
+            if let Err(e) = self.begin() {
+                warn!("no other daemon can take over: {e}");
+            }
+        }
+        loop {
+            let Some(waits) = &mut self.waits else { return Ok(Turn::Message) };
+            let is_ready = match waits.next()? {
+                Next::FrontEnd => return Ok(Turn::Message),
+                Next::Ready(socket, record) => self.choose(socket, &record),
+                Next::Prepared => true,
+                Next::Left => self.leave("it has ended"),
+                Next::Late => self.leave(
+                    "the guest's state isn't prepared in time: the host may hold a call for it",
+                ),
+            };
+            if is_ready && self.give() {
+                return Ok(Turn::Replaced);
+            }
+        }
+    }
+
+    /// A daemon is ready. Returns whether the state is prepared already.
+    fn choose(&mut self, socket: OwnedFd, record: &Record) -> bool {
+        let Some(waits) = &mut self.waits else { return false };
+        let mut front_end = self.front_end.lock().unwrap_or_else(PoisonError::into_inner);
+        let why = match (self.control.record.refuses(record), front_end.keeps_daemon()) {
+            (Some(why), _) => Some(why),
+            (None, Some(why)) => Some(why.into()),
+            (None, None) => waits.has_chosen().then(|| "another daemon takes over already".into()),
+        };
+        if let Some(why) = why {
+            warn!("a daemon that would take over is refused: {why}");
+            refuse(socket, &why);
+            return false;
+        }
+        if let Err(e) = waits.choose(socket) {
+            warn!("no other daemon can take over: {e}");
+            return false;
+        }
+        front_end.prepare();
+        front_end.is_prepared() == Some(true)
+    }
+
+    /// The chosen daemon doesn't take over.
+    fn leave(&mut self, why: &str) -> bool {
+        if let Some(socket) = self.waits.as_mut().and_then(Waits::take_chosen) {
+            warn!("a daemon doesn't take over: {why}");
+            refuse(socket, why);
+            self.front_end().stay();
+        }
+        false
+    }
+
+    /// Gives all to the chosen daemon, if there is one and the state is prepared. Returns whether
+    /// it serves from here on.
+    fn give(&mut self) -> bool {
+        let is_prepared = self.front_end().is_prepared();
+        match is_prepared {
+            Some(true) => {}
+            Some(false) => return false,
+            None => return self.leave("a migration has begun or ended meanwhile: try it again"),
+        }
+        let Some(heir) = self.waits.as_mut().and_then(Waits::take_chosen) else { return false };
+        let mut front_end = self.front_end();
+        if let Some(why) = front_end.keeps_daemon() {
+            refuse(heir, why);
+            return false;
+        }
+        match give(&mut front_end, &self.control, (self.socket, heir)) {
+            Ok(()) => true,
+            Err(why) => {
+                warn!("a daemon doesn't take over, and this one continues: {why}");
+                false
+            }
+        }
+    }
+}
+
+/// Waits until a front-end connects to this listener. Meanwhile no other daemon can take over.
+pub fn wait_for_front_end(listener: RawFd, control: &Control) -> io::Result<()> {
+    let Some(mut waits) = Waits::new(control, listener, None)? else { return Ok(()) };
+    loop {
+        match waits.next()? {
+            Next::FrontEnd => return Ok(()),
+            Next::Ready(socket, _) => {
+                let why = "no front-end is connected yet: end this daemon, and start another";
+                warn!("a daemon that would take over is refused: {why}");
+                refuse(socket, why);
+            }
+            Next::Prepared | Next::Left | Next::Late => {}
+        }
+    }
+}

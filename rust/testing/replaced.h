@@ -1,0 +1,45 @@
+/* A daemon that is replaced by others, for the parts of the test. */
+#ifndef REPLACED_H
+#define REPLACED_H
+#include "front.h"
+#include "stream.h"
+
+struct replaced {
+    struct front front;
+    struct stream stream;
+    char folder[64], control[80], log[80];
+    const char *const *options; /* of each daemon, ending with NULL */
+    pid_t serving;              /* the daemon that serves */
+    int count, refused;
+};
+
+/* Starts a daemon with a control socket, a session, and so many nodes that the guest holds. */
+void replaced_begin(struct replaced *r, const char *server, const char *dir,
+                    const char *const *options, size_t nodes);
+
+/* Ends the last daemon, which must end with 0. */
+void replaced_end(struct replaced *r);
+
+/* Starts a daemon that takes over by a socket, with options more. */
+pid_t take_over(struct replaced *r, const char *control, const char *const *more);
+
+/* Waits until a process ends: its status as the shell has it, or -1 after so many milliseconds. */
+int wait_for(pid_t pid, int milliseconds);
+
+/* Replaces the daemon: true if the new one serves, and false if it was refused. Anything else ends
+ * the program. */
+bool replace(struct replaced *r, const char *const *more);
+
+/* Whether the log of the last new daemon has these words. */
+bool log_has(const struct replaced *r, const char *words);
+
+/* The front-end still reaches the one that serves. */
+void check_messages(struct replaced *r);
+
+/* A stretch of rings' memory stays as it is. */
+void pause_ms(int milliseconds);
+
+/* Between two daemons: stops at each message (between.c). */
+void try_between(struct replaced *r);
+
+#endif
