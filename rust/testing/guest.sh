@@ -228,7 +228,7 @@ lent() {
 
 # The monitor's commands of a scenario, once the guest is ready.
 meddle() {
-    local run=$1 scenario=$2 holder
+    local run=$1 scenario=$2 holder k
     case $scenario in
     pause)
         wait_for "$run" READY || return
@@ -268,6 +268,19 @@ with open(sys.argv[1], "r+") as file:
             'device_add pc-dimm,id=d1,memdev=m1'
         wait_for "$run" ^PLUGGED
         kill "$holder"
+        ;;
+    kept)
+        for k in 0 1 2 3; do
+            echo "version $k" > "$share/work/file"
+            touch -d @1000000000 "$share/work/file"
+            ln -sfn "target $k" "$share/work/link"
+            echo "name $k" > "$share/work/new-$k"
+            : > "$share/work/round-$k"
+            for _ in $(seq 400); do
+                [ ! -e "$share/work/seen-$k" ] || break
+                sleep 0.2
+            done
+        done
         ;;
     reset)
         wait_for "$run" READY || return
@@ -404,6 +417,7 @@ guest() {
     run_guest reset ours reset
     all_are reset READER "$(sum "$share/files/m8")"
     grep -q '^AGAIN' "$run/lines" || failure "reset: the guest didn't come again"
+    kept
     hotplug
     slow
     frozen 0
@@ -423,6 +437,16 @@ hotplug() {
     grep -q '^PLUGGED out' "$run/lines" || failure "$name: no memory went"
     [ "$(cat "$run/lent")" = $'524288\n262144' ] ||
         failure "$name: the daemon has other memory mapped than it was lent: $(cat "$run/lent")"
+}
+
+# What the guest keeps is as the host has it, with each option that lets it keep more.
+kept() {
+    local k
+    make_files
+    run_guest kept ours kept --negative-timeout=1 --cache-symlinks --no-flush --keep-cache
+    for k in 0 1 2 3; do printf 'FILE version %s\n' $k $k $k; done | expect kept FILE
+    for k in 0 1 2 3; do printf 'LINK target %s\n' $k $k; done | expect kept LINK
+    for k in 0 1 2 3; do echo "NEW name $k"; done | expect kept NEW
 }
 
 # A file on which the host has a lease takes long to open; memory that comes then doesn't wait for

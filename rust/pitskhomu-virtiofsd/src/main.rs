@@ -4,6 +4,7 @@ mod adapter;
 mod capabilities;
 mod fd_table;
 mod front_end;
+mod guest_cache;
 mod in_flight;
 mod iommu;
 mod logger;

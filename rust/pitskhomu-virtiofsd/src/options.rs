@@ -4,11 +4,13 @@ mod compat;
 mod listed;
 mod values;
 
+use crate::guest_cache::{GuestCache, Pages};
 use clap::Parser;
 pub use listed::Listed;
 use std::os::fd::RawFd;
 use std::path::PathBuf;
 use std::sync::LazyLock;
+use std::time::Duration;
 use values::{tag, xattr_map};
 pub use values::{CapabilityChanges, Handles, Seccomp};
 use virtiofsd::idmap::{GidMap, UidMap};
@@ -157,6 +159,32 @@ pub struct Options {
     /// only if nobody else changes the directory.
     #[arg(long, default_value = "auto")]
     pub cache: CachePolicy,
+    /// For how many seconds the guest may keep that a name is missing
+    ///
+    /// Within this time it doesn't see a file that somebody else makes. 0 asks for each look-up.
+    #[arg(long, default_value_t = 0, value_name = "SECONDS")]
+    pub negative_timeout: u32,
+    /// The guest may keep where symbolic links lead
+    ///
+    /// A link never changes on Linux hosts: a new one has another inode. Host file systems that use
+    /// an inode's number again at once aren't a danger, since the daemon holds the old inode.
+    #[arg(long)]
+    pub cache_symlinks: bool,
+    /// The guest sends no FLUSH when it closes a file
+    ///
+    /// Use it only for host file systems that do nothing on close, such as ext4, xfs, btrfs and
+    /// tmpfs. On NFS, close writes the data and reports errors, which the guest would miss. It has
+    /// no effect with --writeback.
+    #[arg(long)]
+    pub no_flush: bool,
+    /// With --cache=auto the guest keeps a file's pages from one open to the next, if nobody
+    /// changed it
+    ///
+    /// The daemon compares size, mtime and ctime at each open. It doesn't see what a program of the
+    /// host writes through a shared mapping, and on a network file system what the host hasn't
+    /// asked for again.
+    #[arg(long)]
+    pub keep_cache: bool,
     /// The guest may delay writes, and join small ones
     ///
     /// The host sees data later, and the guest decides sizes and times of change. Use it only if
@@ -441,6 +469,17 @@ impl Options {
     /// Whether extended attributes are supported.
     pub fn has_xattr(&self) -> bool {
         self.xattr || self.xattrmap.is_some() || self.posix_acl || self.security_label
+    }
+
+    /// What the guest may keep besides --cache.
+    pub fn guest_cache(&self) -> GuestCache {
+        let keeps = self.keep_cache && matches!(self.cache, CachePolicy::Auto);
+        GuestCache {
+            negative: Duration::from_secs(self.negative_timeout.into()),
+            links: self.cache_symlinks,
+            no_flush: self.no_flush,
+            pages: keeps.then(Pages::default),
+        }
     }
 
     /// What each session with these options agrees on: INIT fails where the guest lacks it.

@@ -2,6 +2,7 @@
 mod translated;
 
 use crate::adapter::Adapter;
+use crate::guest_cache::GuestCache;
 use crate::in_flight::Doing;
 use crate::iommu::Cancel;
 use crate::memory::Table;
@@ -37,6 +38,8 @@ pub struct Core<F> {
     pub rings: Vec<Ring>,
     /// Which of the guest's open flags apply on the host.
     pub flags: OpenFlags,
+    /// What the guest may keep.
+    pub cache: GuestCache,
     /// What each session agrees on.
     pub always_agreed: pitskhomu::Options,
     /// The number of calls of an earlier session that may change the next one.
@@ -59,6 +62,8 @@ pub struct Parts<F> {
     pub threads: u16,
     /// Which of the guest's open flags apply on the host.
     pub flags: OpenFlags,
+    /// What the guest may keep.
+    pub cache: GuestCache,
     /// What each session agrees on.
     pub always_agreed: pitskhomu::Options,
 }
@@ -67,7 +72,7 @@ impl<F: ServedFs> Core<F> {
     /// A device without memory whose rings aren't started. `threads` threads serve each request
     /// queue, and one the high-priority queue.
     pub fn new(parts: Parts<F>) -> io::Result<Core<F>> {
-        let Parts { fs, request_queues, threads, flags, always_agreed } = parts;
+        let Parts { fs, request_queues, threads, flags, cache, always_agreed } = parts;
         if !pitskhomu::is_compatible() {
             return Err(io::Error::other("the archive lacks functions that the wrapper calls"));
         }
@@ -82,6 +87,7 @@ impl<F: ServedFs> Core<F> {
             device: pitskhomu::Device::default(),
             rings,
             flags,
+            cache,
             always_agreed,
             late,
             is_ending: AtomicBool::new(false),
@@ -275,7 +281,8 @@ impl<F: ServedFs> Server for QueueWorker<F> {
     fn answer(&mut self, doing: &Doing, memory: &Table) {
         let core = &self.core;
         let ring = &core.rings[self.index];
-        let adapter = Adapter { fs: &core.fs, ring, memory, doing, flags: core.flags };
+        let (fs, cache) = (&core.fs, &core.cache);
+        let adapter = Adapter { fs, ring, memory, doing, flags: core.flags, cache };
         let mut answer = || self.worker.answer(&core.device, &adapter, memory);
         let answered = catch_unwind(AssertUnwindSafe(&mut answer)).or_else(|_| {
             // the hook of start::log logs the panic
@@ -322,8 +329,8 @@ impl<F: ServedFs> Server for QueueWorker<F> {
     fn undo(&mut self) {
         if let Some((cancelled, memory)) = self.cancelled.take() {
             let (core, doing) = (&self.core, &Doing::dropped());
-            let (fs, ring) = (&core.fs, &core.rings[self.index]);
-            let adapter = Adapter { fs, ring, memory: &memory, doing, flags: core.flags };
+            let (fs, cache, ring) = (&core.fs, &core.cache, &core.rings[self.index]);
+            let adapter = Adapter { fs, ring, memory: &memory, doing, flags: core.flags, cache };
             let _ = catch_unwind(AssertUnwindSafe(|| cancelled.undo(&adapter)));
         }
     }

@@ -2,6 +2,7 @@
 use crate::capabilities;
 use crate::fd_table;
 use crate::front_end::FrontEnd;
+use crate::guest_cache::GuestCache;
 use crate::iommu;
 use crate::logger::{self, Logger};
 use crate::open_flags::OpenFlags;
@@ -239,6 +240,7 @@ struct Serving {
     seccomp: crate::options::Seccomp,
     syslog: bool,
     flags: OpenFlags,
+    cache: GuestCache,
     always_agreed: pitskhomu::Options,
     control: Control,
     /// The listener is a connection to the daemon that this one takes over from.
@@ -262,6 +264,7 @@ impl Serving {
                 preserve_noatime: options.preserve_noatime,
                 writeback: options.writeback,
             },
+            cache: options.guest_cache(),
             always_agreed: options.always_agreed(),
             control,
             takes_over: options.take_over.is_some(),
@@ -269,9 +272,9 @@ impl Serving {
     }
 
     fn serve<F: ServedFs>(self, fs: F, logger: &Logger) -> Result<(), Failure> {
-        let Serving { request_queues, threads, flags, always_agreed, .. } = self;
-        let core =
-            Arc::new(Core::new(Parts { fs, request_queues, threads, flags, always_agreed })?);
+        let Serving { request_queues, threads, flags, cache, always_agreed, .. } = self;
+        let parts = Parts { fs, request_queues, threads, flags, cache, always_agreed };
+        let core = Arc::new(Core::new(parts)?);
         logger::lead_errors()?;
         capabilities::give_up(&self.capabilities)?;
         system_calls::limit(self.seccomp, self.syslog)?; // new threads inherit it

@@ -113,6 +113,28 @@ scenario_pause() {
     run umount /mnt
 }
 
+# What the guest may keep, while the host changes the directory: in each round another version of a
+# file, of the same size and time, another link and another name. The file is read at once, and then
+# twice when it has been left alone for a while.
+scenario_kept() {
+    local i=0
+    mount_it
+    while [ $i -lt 4 ]; do
+        until [ -e /mnt/work/round-$i ]; do sleep 0.2; done
+        echo "FILE $(cat /mnt/work/file)"
+        sleep 4
+        for _ in 1 2; do
+            echo "FILE $(cat /mnt/work/file)"
+            echo "LINK $(readlink /mnt/work/link)"
+        done
+        echo "NEW $(cat /mnt/work/new-$i)"
+        cat /mnt/work/new-$((i + 1)) 2> /tmp/none && echo "NEW too early"
+        : > /mnt/work/seen-$i
+        i=$((i + 1))
+    done
+    run umount /mnt
+}
+
 # Lines for a file system that the host freezes (frozen.py).
 scenario_frozen() {
     local boot

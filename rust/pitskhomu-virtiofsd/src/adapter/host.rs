@@ -48,7 +48,7 @@ impl<F: v::FileSystem> Adapter<'_, F> {
             let kind = p::FileKind(entry.type_);
             let added = p::DirectoryEntry::new(entry.name, entry.ino, entry.offset, kind);
             // `virtiofsd` looks each name up too, and not one that doesn't fit.
-            if !list.add_with(added, || p::FileSystem::lookup(self, x, node, entry.name))? {
+            if !list.add_with(added, || self.look_name_up(x, node, entry.name))? {
                 break;
             }
         }

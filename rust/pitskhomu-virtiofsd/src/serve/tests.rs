@@ -79,6 +79,7 @@ fn core() -> (Arc<Core<Holding>>, Receiver<()>, Sender<()>) {
         request_queues: 1,
         threads: 1,
         flags: OpenFlags { allow_direct_io: false, preserve_noatime: false, writeback: false },
+        cache: crate::guest_cache::GuestCache::default(),
         always_agreed: pitskhomu::Options::empty(),
     });
     let core = Arc::new(core.expect("a core"));
