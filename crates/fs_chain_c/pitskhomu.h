@@ -8,7 +8,8 @@
  *                 pk_pop_ring makes the loads, too, where the guest's memory is mapped
  *     pk_decode   decodes the bytes of the request, and returns the file call
  *     pk_reply_*  encodes the answer of your file system
- *     pk_push     returns the stores that add the chain to the used ring
+ *     pk_push     returns the stores that add the chain to the used ring. pk_push_ring makes them,
+ *                 and ends the push
  *     pk_pushed   ends the push, and returns whether to notify the driver
  *
  * THE SMALLEST LOOP. examples/c/sketch.c has the rest of it, and monitor.c shows more.
@@ -44,13 +45,12 @@
  *     the call writes overlaps no other.
  *  2. Load each byte once: copy it, pass the copy, and don't read the guest's byte again.
  *  3. A load of 2 bytes is one atomic load with acquire order. Other loads need no order.
- *  4. To push, do in this order:
- *     - copy the data into the reply buffer, and then the front (the reply without its data) over
- *       the buffer's first bytes;
- *     - store the two halves of the used element;
- *     - store the used index, atomically and with release order;
- *     - issue a full barrier (atomic_thread_fence(memory_order_seq_cst); giver_waits);
- *     - load the 2 bytes at `seen_at`.
+ *     pk_pop_ring loads so.
+ *  4. To push, copy the data into the reply buffer, and then the front (the reply without its data)
+ *     over the buffer's first bytes; store the two halves of the used element; store the used
+ *     index, atomically and with release order; issue a full barrier
+ *     (atomic_thread_fence(memory_order_seq_cst)); load the 2 bytes at `seen_at`. pk_push_ring does
+ *     so, but for the data.
  *  5. Use windows only until pk_pushed, pk_drop or pk_abandon. Store only into reply windows.
  *  6. A chain keeps the regions that its handle had at the pop. From its first pk_pop until it is
  *     pushed, dropped or abandoned, leave their memory mapped in the VMM. Regions that other
@@ -69,19 +69,9 @@
  *   - from a chain's first pk_pop to its last, and from pk_push to pk_pushed (checks_often);
  *   - from pk_set_notification to the end of the pop that follows.
  *
- * NOTIFICATIONS. Between resets none is lost, of driver or device, under these rules and VIRTIO's
- * for the driver (2.7.13, 2.7.14). In brackets is a rule's name in the model of crate notify, which
- * without the rule loses a notification, or stops the queue.
- *   - Before a thread sleeps, after its last pop: pk_set_notification(1), the store, a full
- *     barrier, and one more pop. That pop must load the available index again (taker_waits, late).
- *     Sleep if it returns PK_IDLE, or if `max_in_flight` are in flight. Else take the steps again.
- *   - A thread that calls pk_pop or pk_set_notification while another thread of the queue sleeps
- *     also takes these steps before it releases the lock (rearms_again). Without EVENT_IDX it may
- *     omit the store if the queue's last one was the same. If its handle holds a chain, it loads
- *     the available index instead of the pop, and compares that with `next_avail`. If a chain is
- *     available, it pops it or wakes another thread: the driver won't notify (wakes_another).
- *   - A thread that pushes or drops a chain pops again, or wakes a thread (walks_after). A woken
- *     thread resets its event (eventfd), and then pops.
+ * NOTIFICATIONS. Between resets none is lost, of driver or device, if each thread of a queue does
+ * what pitskhomu_turns.h returns, as in examples/c/live.c, and the driver keeps VIRTIO 1.2, 2.7.13
+ * and 2.7.14. A loop without it keeps the rules of docs/EMBEDDING.md, "A loop of your own".
  *
  * FEATURES to offer: VERSION_1 (32; refuse a driver without it), INDIRECT_DESC (28), EVENT_IDX (29,
  * with `event_index`), ACCESS_PLATFORM (33, if addresses are guest physical, or chains have the

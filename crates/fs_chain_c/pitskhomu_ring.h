@@ -1,5 +1,5 @@
-/* pitskhomu_ring.h: a pop in one call, over regions that are mapped in this process. pitskhomu.h
- * includes it for GCC and Clang. Inline functions over pk_pop_ahead: tested, not proved. */
+/* pitskhomu_ring.h: a pop and a push in one call each, over regions that are mapped in this
+ * process. pitskhomu.h includes it for GCC and Clang. Inline functions: tested, not proved. */
 #if defined(__GNUC__) && !defined(PITSKHOMU_RING_H)
 #define PITSKHOMU_RING_H
 
@@ -157,5 +157,77 @@ static inline uint32_t pk_pop_ring(struct pk_chain *chain, struct pk_queue *queu
         status = pk_pop(chain, queue, loads.bytes, pop->load_len, pop);
     }
     return status;
+}
+
+/* Whether a chain is, or may be, available after the last pop: by the index that was loaded last,
+ * or it is loaded again. Returns 1, or 0. */
+static inline int pk_look_ring(const struct pk_queue *queue, struct pk_ring *ring) {
+    if (!ring->avail || ring->size != queue->size) return 1;
+    if (!ring->has_index || ring->reset_count != queue->reset_count ||
+        ring->index == queue->next_avail) {
+        pk_ring_load(&ring->index, ring->avail + 2, 2);
+        ring->reset_count = queue->reset_count;
+        ring->has_index = 1;
+    }
+    return ring->index != queue->next_avail;
+}
+
+/* Logs a store of `len` bytes at a host address, during a migration. */
+typedef void pk_mark(void *log, uintptr_t at, uint64_t len);
+
+/* Copies a reply's front into the reply buffer, if there is one, and marks the first `len` bytes of
+ * the buffer. */
+static inline void pk_ring_reply(struct pk_chain *chain, const uint8_t *front, uint64_t len,
+                                 pk_mark *mark, void *log) {
+    struct pk_window windows[16];
+    size_t count;
+    for (uint64_t from = 0; from < len;) {
+        if (!(count = pk_reply_windows(chain, from, len - from, windows, 16))) return;
+        for (size_t k = 0; k < count; from += windows[k].len, k++)
+            if (front)
+                __builtin_memcpy((void *)windows[k].at, front + from, windows[k].len);
+            else
+                mark(log, windows[k].at, windows[k].len);
+    }
+}
+
+/* Pushes a chain, with its stores in the order of rule 4, and the barrier. `mark` logs each store,
+ * or is NULL. Data that isn't part of the reply you mark yourself. Returns a status of pk_push or
+ * pk_pushed, and `*notify` as pk_pushed does. */
+static inline uint32_t pk_push_ring(struct pk_chain *chain, struct pk_queue *queue, pk_mark *mark,
+                                    void *log, uint8_t *notify) {
+    uint8_t front[PK_FRONT_MAX];
+    struct pk_stores stores;
+    uint16_t seen;
+    uint32_t status = pk_push(chain, queue, front, sizeof front, &stores);
+    *notify = 0;
+    if (status != PK_DONE) return status;
+    pk_ring_reply(chain, front, stores.front_len, mark, log);
+    __atomic_store_n((uint32_t *)stores.id_at, stores.id, __ATOMIC_RELAXED);
+    __atomic_store_n((uint32_t *)stores.len_at, stores.len, __ATOMIC_RELAXED);
+    __atomic_store_n((uint16_t *)stores.index_at, stores.index, __ATOMIC_RELEASE);
+    if (mark) {
+        pk_ring_reply(chain, NULL, stores.len, mark, log);
+        mark(log, stores.id_at, 4);
+        mark(log, stores.len_at, 4);
+        mark(log, stores.index_at, 2);
+    }
+    /* else `seen` might be loaded before the driver sees the index, and a notification is lost */
+    __atomic_thread_fence(__ATOMIC_SEQ_CST);
+    pk_ring_load(&seen, stores.seen_at, 2);
+    return pk_pushed(chain, queue, seen, notify);
+}
+
+/* Enables or disables available buffer notifications: pk_set_notification, its store, and a full
+ * barrier. Returns its status; with event_index nothing is stored to disable them. */
+static inline uint32_t pk_notify_ring(struct pk_chain *chain, const struct pk_queue *queue,
+                                      uint32_t enabled, pk_mark *mark, void *log) {
+    struct pk_store store;
+    uint32_t status = pk_set_notification(chain, queue, enabled, &store);
+    if (status != PK_DONE || store.len == 0) return status;
+    __atomic_store_n((uint16_t *)store.at, store.value, __ATOMIC_RELAXED);
+    if (mark) mark(log, store.at, store.len);
+    __atomic_thread_fence(__ATOMIC_SEQ_CST);
+    return PK_DONE;
 }
 #endif

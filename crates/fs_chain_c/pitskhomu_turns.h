@@ -4,7 +4,7 @@
  * A queue has one lock, and one `struct pk_turns` beside it under that lock. A thread that holds
  * the lock calls the function of what happened, does what that returns, and calls the function of
  * what happened then. Threads that do so lose no chain and no answer, and forget no interrupt: they
- * keep the rules of NOTIFICATIONS. examples/c/live.c is such a loop.
+ * keep the rules of NOTIFICATIONS in pitskhomu.h. examples/c/live.c is such a loop.
  *
  * PROVED: each function has the effect of its event in the machine of crates/fs_turns, of which
  * law_no_turn_is_lost says that no turn is lost, by any number of threads, in any order, if

@@ -107,42 +107,20 @@ void put_data(struct pk_chain *chain, uint64_t from, const void *bytes, uint64_t
     if (marker) mark_data(chain, from, len, marker);
 }
 
-static void mark_stores(struct pk_chain *chain, const struct marker *marker,
-                        const struct pk_stores *stores) {
-    mark_data(chain, 0, stores->len, marker);
-    marker->mark(marker->log, stores->id_at, 4);
-    marker->mark(marker->log, stores->len_at, 4);
-    marker->mark(marker->log, stores->index_at, 2);
-}
-
 uint32_t give_back(struct pk_chain *chain, struct pk_queue *queue, const struct marker *marker,
                    bool *notify) {
-    uint8_t front[PK_FRONT_MAX], wanted = 0;
-    struct pk_stores stores;
-    uint32_t status = pk_push(chain, queue, front, sizeof front, &stores);
-    if (status) return status;
-    scatter(chain, 0, front, stores.front_len);
-    atomic_store_explicit((_Atomic uint32_t *)stores.id_at, stores.id, memory_order_relaxed);
-    atomic_store_explicit((_Atomic uint32_t *)stores.len_at, stores.len, memory_order_relaxed);
-    atomic_store_explicit((_Atomic uint16_t *)stores.index_at, stores.index, memory_order_release);
-    if (marker) mark_stores(chain, marker, &stores);
-    /* Without a full barrier the flags may be loaded before the driver sees the index, and a
-     * notification is lost. */
-    atomic_thread_fence(memory_order_seq_cst);
-    status = pk_pushed(chain, queue, load_index(stores.seen_at), &wanted);
+    uint8_t wanted;
+    uint32_t status = pk_push_ring(chain, queue, marker ? marker->mark : NULL,
+                                   marker ? marker->log : NULL, &wanted);
     *notify = *notify || wanted;
     return status;
 }
 
 bool set_notification(struct pk_chain *chain, const struct pk_queue *queue, bool wanted,
                       const struct marker *marker) {
-    struct pk_store store;
-    if (pk_set_notification(chain, queue, wanted, &store) != PK_DONE || store.len == 0)
-        return false;
-    atomic_store_explicit((_Atomic uint16_t *)store.at, store.value, memory_order_relaxed);
-    if (marker) marker->mark(marker->log, store.at, store.len);
-    atomic_thread_fence(memory_order_seq_cst);
-    return true;
+    return pk_notify_ring(chain, queue, wanted, marker ? marker->mark : NULL,
+                          marker ? marker->log : NULL) == PK_DONE &&
+           (wanted || !queue->event_index);
 }
 
 void give_up(struct pk_chain *chain, struct pk_queue *queue, uint32_t ticket,

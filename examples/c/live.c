@@ -1,31 +1,19 @@
-#define _GNU_SOURCE
+/* The loop of a queue's threads: a thread does what pitskhomu_turns.h returns. */
 #include "live.h"
 #include <errno.h>
 #include <poll.h>
 #include <stdatomic.h>
-#include <stdlib.h>
-#include <sys/eventfd.h>
 #include <unistd.h>
 
-enum { PAGE_SIZE = 4096, LIMIT = PK_REQUEST_MAX, RETRY_MILLISECONDS = 10 };
-
-/* A chain was pushed; none is available; or one is, but an allocation failed. */
-enum found { SERVED, NOTHING, LATER };
-
-static void signal_event(int fd) {
-    uint64_t one = 1;
-    if (write(fd, &one, sizeof one) < 0) return; /* a full counter wakes as well */
-}
-
-/* ------------------------------------------------------------- one chain */
+enum { RETRY_MILLISECONDS = 10 };
 
 /* From the request to the reply, without the lock: a slow file delays only its own chain. */
-static uint32_t serve_request(struct worker *worker, const struct pk_pop *pop) {
+static uint32_t serve_request(struct worker *worker) {
     struct live *live = worker->live;
-    struct pk_device device = {PAGE_SIZE, LIMIT, atomic_load(live->options)};
+    struct pk_device device = live_device(atomic_load(live->options));
     uint64_t options = device.options;
     struct pk_call call;
-    size_t have = load_front(&worker->chain, pop, worker->request);
+    size_t have = load_front(&worker->chain, &worker->pop, worker->request);
     uint32_t status = ask(&worker->chain, &device, worker->request, have, &call);
     if (status != PK_DONE) return status;
     status = live->answer(live->files, &worker->chain, &device, &call, worker->request);
@@ -35,153 +23,97 @@ static uint32_t serve_request(struct worker *worker, const struct pk_pop *pop) {
     return status == PK_NO_ROOM ? PK_DONE : status;
 }
 
-/* Pops the next chain. If `max_in_flight` are in flight, the thread that pushes one pops again. */
-static uint32_t take(struct worker *worker, struct pk_pop *pop) {
+/* Pushes the chain. Returns whether the driver is to be notified. */
+static bool push(struct worker *worker) {
     struct live *live = worker->live;
-    uint32_t status =
-        live->refused ? PK_IDLE : take_chain(&worker->chain, &live->queue, &live->offered, pop);
-    uint16_t in_flight = (uint16_t)(live->queue.next_avail - live->queue.next_used);
-    if (in_flight > live->most) live->most = in_flight;
-    return status == PK_CHAIN_IN_FLIGHT ? PK_IDLE : status;
-}
-
-/* Enables or disables the driver's notifications, if they aren't so already. Returns whether there
- * was a store: then pop once more, since a chain may have become available before. */
-static bool set_kicks(struct worker *worker, bool enabled) {
-    struct live *live = worker->live;
-    uint16_t at = enabled && live->queue.event_index ? live->queue.next_avail : 0;
-    if (live->kicks == (enabled ? ENABLED : DISABLED) && live->enabled_at == at) return false;
-    live->kicks = enabled ? ENABLED : DISABLED;
-    live->enabled_at = at;
-    return set_notification(&worker->chain, &live->queue, enabled, live->marker);
-}
-
-/* A chain that becomes available while this one is answered is for a thread that sleeps. If none
- * sleeps, this thread pops again by itself, and a notification would cost the guest an exit. */
-static void hand_on(struct worker *worker) {
-    struct live *live = worker->live;
-    bool is_for_another = live->sleeping > 0;
-    set_kicks(worker, is_for_another);
-    /* the index that was loaded last may have one more chain. It lies where the library said: in
-       another region, perhaps, than the ring's flags */
-    uint16_t position = live->queue.next_avail;
-    if (is_for_another &&
-        (live->offered.index != position || load_index(live->offered.at) != position))
-        signal_event(live->kick);
-}
-
-/* The lock is held, except while the request is served. */
-static enum found serve_one(struct worker *worker) {
-    struct live *live = worker->live;
-    struct pk_pop pop;
     bool notify = false;
-    uint32_t status = take(worker, &pop);
-    if (status == PK_IDLE) return NOTHING;
-    if (status == PK_DONE) hand_on(worker);
-    if (status == PK_DONE && pop.fault == 0) {
-        pthread_mutex_unlock(&live->lock);
-        status = serve_request(worker, &pop);
-        pthread_mutex_lock(&live->lock);
-    } else if (status == PK_DONE) {
-        live->faulty++;
-    }
+    uint32_t status = worker->status;
+    worker->has_chain = false;
+    if (worker->pop.fault) live->faulty++;
     if (status == PK_DONE) status = give_back(&worker->chain, &live->queue, live->marker, &notify);
-    if (status != PK_DONE)
-        give_up(&worker->chain, &live->queue, pop.ticket, live->marker, &notify);
-    if (notify) signal_event(live->call);
-    if (status == PK_OUT_OF_MEMORY) return LATER;
     if (status == PK_DONE)
         live->served++;
-    else if (!live->refused)
-        live->refused = status;
-    return status == PK_DONE ? SERVED : NOTHING;
+    else
+        give_up(&worker->chain, &live->queue, worker->pop.ticket, live->marker, &notify);
+    worker->is_later = status == PK_OUT_OF_MEMORY;
+    if (status != PK_DONE && !worker->is_later && !live->refused) live->refused = status;
+    return notify;
 }
 
-/* ------------------------------------------------------------- sleep and wake */
-
-/* Serves chains until none is available. */
-static enum found serve_all(struct worker *worker) {
+/* Pops a chain, and reports what came of it. */
+static uint32_t pop(struct worker *worker) {
     struct live *live = worker->live;
-    enum found found;
+    struct pk_queue *queue = &live->queue;
+    bool is_later = worker->is_later, notify = false;
+    worker->is_later = false;
+    if (live->stops || live->refused) return pk_turn_refused(&live->turns);
+    if (is_later) return pk_turn_later(&live->turns);
+    uint32_t status = pk_pop_ring(&worker->chain, queue, &live->ring, &worker->pop);
+    uint16_t in_flight = (uint16_t)(queue->next_avail - queue->next_used);
+    if (in_flight > live->most) live->most = in_flight;
+    worker->has_chain = status == PK_DONE;
+    if (worker->has_chain)
+        return pk_turn_popped(&live->turns, queue->next_avail, in_flight >= queue->max_in_flight,
+                              0);
+    if (status == PK_IDLE) return pk_turn_idle(&live->turns, 0, queue->next_avail);
+    if (status == PK_CHAIN_IN_FLIGHT) return pk_turn_full(&live->turns);
+    give_up(&worker->chain, queue, worker->pop.ticket, live->marker, &notify);
+    if (status == PK_OUT_OF_MEMORY) return pk_turn_later(&live->turns);
+    live->refused = status;
+    return pk_turn_refused(&live->turns);
+}
+
+/* Has the lock, until an action releases it. */
+static uint32_t take_turn(struct worker *worker, bool slept) {
+    struct live *live = worker->live;
+    struct pk_turns *turns = &live->turns;
+    struct pk_queue *queue = &live->queue;
     pthread_mutex_lock(&live->lock);
-    live->sleeping--;
-    do {
-        while ((found = serve_one(worker)) == SERVED) {}
-    } while (set_kicks(worker, true));
-    live->sleeping++;
-    pthread_mutex_unlock(&live->lock);
-    return found;
-}
-
-/* A notification wakes the threads that sleep. Each serves chains until none is available. For a
- * chain after the last pop the driver notifies again. */
-static void *work(void *at) {
-    struct worker *worker = at;
-    struct live *live = worker->live;
-    struct pollfd events[2] = {{live->quit, POLLIN, 0}, {live->kick, POLLIN, 0}};
-    uint64_t kicks;
-    do {
-        int limit = serve_all(worker) == LATER ? RETRY_MILLISECONDS : -1;
-        if (poll(events, 2, limit) < 0 && errno != EINTR) break;
-        if (events[1].revents & POLLIN && read(live->kick, &kicks, sizeof kicks) < 0 &&
-            errno != EAGAIN)
+    bool notify = worker->has_chain && push(worker);
+    uint32_t orders = slept ? pk_turn_woken(turns, 0) : pk_turn_back(turns, notify, 0);
+    for (;;) {
+        switch (orders & PK_DO) {
+        case PK_DO_POP: orders = pop(worker); break;
+        case PK_DO_ARM:
+            orders = set_notification(&worker->chain, queue, true, live->marker)
+                         ? pk_turn_armed(turns, queue->next_avail)
+                         : pk_turn_not_armed(turns);
             break;
-    } while (!(events[0].revents & POLLIN));
-    return NULL;
-}
-
-/* ------------------------------------------------------------- start and stop */
-
-static int start_worker(struct live *live, const struct pk_region *regions, size_t region_count) {
-    struct worker *worker = &live->workers[live->count];
-    struct pk_device device = {PAGE_SIZE, LIMIT, 0};
-    int error = EINVAL;
-    *worker = (struct worker){.live = live, .request = malloc(PK_REQUEST_MAX)};
-    if (!worker->request) return ENOMEM;
-    if (pk_chain_set_memory(&worker->chain, &device, regions, region_count) == PK_DONE)
-        error = pthread_create(&worker->thread, NULL, work, worker);
-    if (error) {
-        pk_chain_free(&worker->chain);
-        free(worker->request);
-    } else {
-        live->count++;
+        case PK_DO_LOOK:
+            orders = pk_look_ring(queue, &live->ring) ? pk_turn_more(turns)
+                                                      : pk_turn_no_more(turns);
+            break;
+        case PK_DO_MUTE:
+            set_notification(&worker->chain, queue, false, live->marker);
+            orders = pk_turn_muted(turns);
+            break;
+        default: pthread_mutex_unlock(&live->lock); return orders;
+        }
     }
-    return error;
 }
 
-int live_start(struct live *live, const struct pk_region *regions, size_t region_count,
-               size_t thread_count) {
-    live->quit = eventfd(0, EFD_CLOEXEC);
-    live->workers = calloc(thread_count, sizeof *live->workers);
-    live->queue.max_in_flight =
-        thread_count < live->queue.size ? (uint16_t)thread_count : live->queue.size;
-    live->sleeping = (unsigned)thread_count;
-    /* an earlier device may have left any flags: the first thread that finds no chain sets them */
-    live->kicks = UNKNOWN;
-    int error = live->quit < 0 || !live->workers ? ENOMEM : pthread_mutex_init(&live->lock, NULL);
-    if (!error && pk_queue_begin(&live->queue, live->queue.next_avail) != PK_DONE) error = EINVAL;
-    for (size_t k = 0; !error && k < thread_count; k++)
-        error = start_worker(live, regions, region_count);
-    if (error) live_stop(live);
-    return error;
+/* Until this thread takes an event: one that another thread took doesn't wake it. */
+static void sleep_until(int event) {
+    struct pollfd waits = {event, POLLIN, 0};
+    uint64_t count;
+    do poll(&waits, 1, -1);
+    while (read(event, &count, sizeof count) < 0 && (errno == EAGAIN || errno == EINTR));
 }
 
-uint32_t live_refusal(struct live *live) {
-    pthread_mutex_lock(&live->lock);
-    uint32_t refused = live->refused;
-    pthread_mutex_unlock(&live->lock);
-    return refused;
-}
-
-void live_stop(struct live *live) {
-    signal_event(live->quit);
-    for (size_t k = 0; k < live->count; k++) {
-        pthread_join(live->workers[k].thread, NULL);
-        pk_chain_free(&live->workers[k].chain);
-        free(live->workers[k].request);
+void *live_work(void *at) {
+    struct worker *worker = at;
+    for (bool slept = false;;) {
+        uint32_t orders = take_turn(worker, slept);
+        if (orders & PK_INTERRUPT) live_signal(worker->live->call);
+        if (orders & PK_WAKE_ONE) live_signal(worker->live->kick);
+        slept = (orders & PK_DO) == PK_DO_SLEEP;
+        switch (orders & PK_DO) {
+        case PK_DO_ANSWER:
+            worker->status = worker->pop.fault ? PK_DONE : serve_request(worker);
+            break;
+        case PK_DO_SLEEP: sleep_until(worker->live->kick); break;
+        case PK_DO_STEP_ASIDE: poll(NULL, 0, RETRY_MILLISECONDS); break;
+        default: return NULL;
+        }
     }
-    free(live->workers);
-    live->workers = NULL;
-    live->count = 0;
-    close(live->quit);
 }
