@@ -139,11 +139,12 @@ def pause(daemon):
         since = len(console())
         wait_for("LINE ", since)
     print(f"frozen: a guest goes on while the daemon is stopped and traced {PAUSES} times")
+    return operated.group
 
 
 def try_all(monitor, daemon):
     wait_for("LINE 3")
-    pause(daemon)
+    group = pause(daemon)
     freeze("-f")
     time.sleep(2)
     for command in ("stop", "cont", "stop"):
@@ -160,6 +161,9 @@ def try_all(monitor, daemon):
     freeze("-u")
     wait_for("LINE 3", since)
     monitor.ask("quit")
+    daemon.wait(60)
+    if group:
+        group.remove()
 
 
 def main():

@@ -31,6 +31,8 @@ class Daemon:
     """A back-end with a folder of its own, which has the shared directory, the socket and the log.
     `prepare` is called before it starts."""
 
+    group = None # of cgroup v2
+
     def __init__(self, program, *options, prepare=None, **more):
         self.folder = tempfile.mkdtemp(prefix="operate-")
         os.chmod(self.folder, 0o755)
@@ -61,6 +63,8 @@ class Daemon:
             with suppress(ProcessLookupError):
                 os.kill(pid, signal.SIGKILL)
         self.process.wait(PATIENCE)
+        if self.group:
+            self.group.remove()
         shutil.rmtree(self.folder, ignore_errors=True)
 
     def connect(self, patience=PATIENCE):
@@ -126,7 +130,7 @@ class Daemon:
 
 def judged(daemon, pattern, said=None):
     """How it ends where its log should say why: what a pattern finds."""
-    status = daemon.ended(3)
+    status = daemon.ended(8)
     if status is None:
         return "serves", f"it doesn't end: {daemon.said()}"
     said = (said or daemon.said)()

@@ -8,7 +8,7 @@ from functools import partial
 from daemon import Daemon, Syslog, judged, sandboxes, serves
 from front import GETATTR, ROOT, Lost
 from pauses import Held
-from rows import Row, is_root
+from rows import Row, may_mount
 
 FILES = 1500
 
@@ -29,7 +29,13 @@ def use_up(daemon):
         pass
 
 
+def has_descriptors():
+    return resource.getrlimit(resource.RLIMIT_NOFILE)[1] > FILES + 700
+
+
 def failed_allocation(program):
+    if not has_descriptors():
+        return "skipped", "the guest's files need more descriptors than RLIMIT_NOFILE allows"
     for sandbox in sandboxes():
         with Daemon(program, f"--sandbox={sandbox}", "--log-level=off") as daemon:
             use_up(daemon)
@@ -40,7 +46,7 @@ def failed_allocation(program):
 
 
 def failed_allocation_with_syslog(program):
-    if not is_root():
+    if not may_mount() or not has_descriptors():
         return "skipped", "only root has a /dev/log of its own"
     with Daemon(program, "--sandbox=none", "--syslog", prepare=Syslog.prepare) as daemon:
         use_up(daemon)

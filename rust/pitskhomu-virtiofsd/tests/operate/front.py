@@ -46,6 +46,8 @@ class Front:
         self.file = os.memfd_create("guest")
         os.ftruncate(self.file, LENGTH)
         self.memory = mmap.mmap(self.file, LENGTH)
+        # `struct.pack_into` stores zeros first, which the device may see.
+        self.words = memoryview(self.memory).cast("H")
         self.kick, self.call, self.err = (os.eventfd(0, os.EFD_NONBLOCK) for _ in range(3))
         self.offered = self.seen = self.unique = 0
         self.returned, self.lock = set(), threading.Lock()
@@ -124,9 +126,9 @@ class Front:
             self.memory[at:at + len(head) + len(body)] = head + body
             self.put(DESC + 32 * slot, "QIHH", at, len(head) + len(body), 1, 2 * slot + 1)
             self.put(DESC + 32 * slot + 16, "QIHH", reply, REPLY, 2, 0)
-            self.put(AVAIL + 4 + 2 * (self.offered % SIZE), "H", 2 * slot)
+            self.words[(AVAIL + 4) // 2 + self.offered % SIZE] = 2 * slot
             self.offered = (self.offered + 1) % 0x10000
-            self.put(AVAIL + 2, "H", self.offered)
+            self.words[(AVAIL + 2) // 2] = self.offered
             os.eventfd_write(self.kick, 1)
             return self.unique
 

@@ -6,7 +6,7 @@ import shutil
 from functools import partial
 
 from daemon import Daemon, as_user, judged, serves
-from rows import Row, is_root
+from rows import Row, is_root, may_mount
 
 def limited(kind, soft, hard=None):
     """What sets a limit in the process that becomes the back-end."""
@@ -25,7 +25,7 @@ def few_threads(program):
 
 
 def little_memory(program):
-    limit = limited(resource.RLIMIT_AS, 120 << 20)
+    limit = limited(resource.RLIMIT_AS, os.path.getsize(program[0]) + (100 << 20))
     with Daemon(program, "--sandbox=none", "--thread-pool-size=200", preexec_fn=limit) as daemon:
         of_thread = r"thread \d+ of 200 of queue 1 can't start: .*RLIMIT_AS|CreateThreadPool"
         return judged(daemon, of_thread + r"|memory allocation of \d+ bytes failed")
@@ -89,7 +89,7 @@ def mounted(options):
 
 def full_disk(program):
     """The shared directory's file system is full: ENOSPC."""
-    if not is_root():
+    if not may_mount():
         return "skipped", "only root mounts a file system"
     with Daemon(program, prepare=mounted("size=64k")) as daemon:
         front = daemon.front().begin()
@@ -110,7 +110,7 @@ def changes_nothing(program, *options, prepare=None):
 
 
 def read_only(program):
-    if not is_root():
+    if not may_mount():
         return "skipped", "only root mounts a file system"
     return changes_nothing(program, prepare=mounted("ro"))
 

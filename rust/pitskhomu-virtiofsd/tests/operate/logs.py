@@ -3,7 +3,7 @@ import os
 from functools import partial
 
 from daemon import Daemon, Syslog, serves, without_syslog
-from rows import Row, is_root
+from rows import Row, may_mount
 
 SESSIONS = 400
 
@@ -72,7 +72,7 @@ def many_sessions_unread(program):
 
 
 def no_syslog(program):
-    if not is_root():
+    if not may_mount():
         return "skipped", "only root takes /dev/log away"
     with Daemon(program, "--syslog", prepare=without_syslog) as daemon:
         outcome = serves(daemon)
@@ -80,7 +80,7 @@ def no_syslog(program):
 
 
 def syslog(program):
-    if not is_root():
+    if not may_mount():
         return "skipped", "only root has a /dev/log of its own"
     with Daemon(program, "--syslog", prepare=Syslog.prepare) as daemon:
         outcome, said = serves(daemon), daemon.syslog.said()
@@ -94,7 +94,7 @@ def unread_syslog(program):
         daemon.syslog.fill()
         return words
 
-    if not is_root():
+    if not may_mount():
         return "skipped", "only root has a /dev/log of its own"
     with Daemon(program, "--syslog", prepare=prepare) as daemon:
         return serves(daemon, patience=5)

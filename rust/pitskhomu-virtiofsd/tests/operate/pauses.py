@@ -9,6 +9,7 @@ import struct
 import tempfile
 import threading
 import time
+from contextlib import suppress
 from functools import partial
 
 from daemon import Daemon, sandboxes
@@ -41,17 +42,12 @@ def stop(daemon):
 
 
 class Cgroup:
-    """A new group of cgroup v2 with the daemon, which the freezer takes."""
+    """A new group of cgroup v2 with the daemon's processes, which the freezer takes."""
 
     def __init__(self, daemon):
-        self.top = unified()
-        self.path = tempfile.mkdtemp(prefix="operate-", dir=self.top)
-        self.move(daemon.processes(), self.path)
-
-    @staticmethod
-    def move(processes, path):
-        for pid in processes:
-            with open(path + "/cgroup.procs", "w", encoding="utf-8") as file:
+        self.path = tempfile.mkdtemp(prefix="operate-", dir=unified())
+        for pid in daemon.processes():
+            with open(self.path + "/cgroup.procs", "w", encoding="utf-8") as file:
                 file.write(str(pid))
 
     def set(self, is_frozen):
@@ -63,9 +59,13 @@ class Cgroup:
         with open(self.path + "/cgroup.events", encoding="utf-8") as file:
             return f"frozen {wanted}\n" in file.read()
 
-    def end(self, daemon):
-        self.move(daemon.processes(), self.top)
-        os.rmdir(self.path)
+    def remove(self):
+        """After its processes have ended."""
+        for _ in range(100):
+            with suppress(OSError):
+                os.rmdir(self.path)
+                return
+            time.sleep(0.02)
 
 
 def unified():
@@ -77,13 +77,10 @@ def unified():
 
 def freeze(daemon):
     """As `systemctl freeze` and `podman pause` do."""
-    group = Cgroup(daemon)
-    try:
-        group.set(1)
-        time.sleep(A_WHILE)
-        group.set(0)
-    finally:
-        group.end(daemon)
+    daemon.group = daemon.group or Cgroup(daemon)
+    daemon.group.set(1)
+    time.sleep(A_WHILE)
+    daemon.group.set(0)
 
 
 def ptrace(request, thread):

@@ -1,6 +1,8 @@
 """A row: one thing that an operator does, and how it ends."""
 import os
+import subprocess
 from dataclasses import dataclass
+from functools import cache
 from typing import Callable
 
 # How a row ends, the worst first, by what is wanted. Where nothing is served, or the daemon has to
@@ -29,3 +31,16 @@ class Row:
 
 def is_root():
     return os.geteuid() == 0
+
+
+@cache
+def may_mount():
+    """Whether this process may make a mount namespace, as root may who isn't in a container."""
+    return not subprocess.call(["unshare", "--mount", "true"], stderr=subprocess.DEVNULL)
+
+
+@cache
+def may_sandbox():
+    """Whether it may make the daemon's default sandbox."""
+    words = ["unshare", "--mount", "--pid", "--net", *([] if is_root() else ["--user"]), "true"]
+    return not subprocess.call(words, stderr=subprocess.DEVNULL)
