@@ -1,21 +1,25 @@
 -- The results of a handle's calls, as reports of a world.
-use Rattle.std.specs.Prelude.{◌≡◌, ℕ, ◌-◌, ◌^◌, ◌<◌, Bool, true, false, IsTrue, List, Option, Some, None}
-use Rattle.std.specs.Prelude.{nat_le, if◌then◌else◌}
+use Rattle.std.specs.Prelude.{◌≡◌, ℕ, ◌-◌, ◌^◌, ◌<◌, Bool, true, false, IsTrue, Option, Some, None}
+use Rattle.std.specs.Prelude.{nat_le, nat_lt, if◌then◌else◌}
 use Rattle.fs_queue.specs.Returning.{Store}
 use Rattle.fs_regions.specs.Walks.{Loaded}
 use Rattle.fs_chain.specs.declared.error.ChainError.TheVariants.{ChainInFlight}
 use Rattle.fs_chain.specs.declared.queue.QueueState.{QueueState}
 use Rattle.fs_chain.specs.declared.state.ChainState as state
+use Rattle.fs_chain.specs.declared.state.ChainState.TheVariants as at
+use Rattle.fs_chain.specs.declared.state.InFlight.{InFlight}
+use Rattle.live_machine.specs.Several.{HasEventIndex, LacksEventIndex}
+use Rattle.notify.specs.Kicks.{back}
 use Rattle.fs_chain.specs.declared.popping.PopOutcome as walked
 use Rattle.fs_chain.specs.declared.popping.PopOutcome.TheVariants as shows
 use Rattle.fs_chain.specs.declared.chain_handle.ChainHandle.{ChainHandle}
 use Rattle.fs_chain.specs.Events.{notification_store}
-use Rattle.fs_chain.specs.Orders.{begin_error, end_error}
-use Rattle.fs_chain.specs.Queues.{gave, in_flight}
+use Rattle.fs_chain.specs.Orders.{begin_error, end_error, give_up_error}
+use Rattle.fs_chain.specs.Queues.{gave, gave_up, in_flight, live_of}
 use Rattle.fs_chain.specs.Holds.{EndsBy, IsQueue, Machine}
 use Rattle.fs_notify.specs.Takers.{ways_of, HasU16Numbers, HasPopped, IsIndex, ShowsWish, wish_at}
-use Rattle.fs_turns.specs.declared.machine.TurnPhase.TheVariants.{Pops}
-use Rattle.fs_turns.specs.declared.machine.TurnEvent.TheVariants.{Popped, Idle, Full}
+use Rattle.fs_turns.specs.declared.machine.TurnPhase.TheVariants.{Mutes, Pops}
+use Rattle.fs_turns.specs.declared.machine.TurnEvent.TheVariants.{Popped, Idle, Full, Muted}
 use Rattle.fs_turns.specs.Worlds.{World, may_report, done}
 
 -- the world's queue has the same next position and as many chains in flight
@@ -71,6 +75,32 @@ ArmsByStore =
     × (notification_store q true ≡ Some store)
     × (store.address ≡ wish_at q)
     × ShowsWish q store.bytes w.position false
+
+-- the store that disables notifications has in memory what Muted reports; with the event index there is none
+abbrev pub HasMuted : QueueState → World → Option Store → Type 0
+HasMuted q w None = HasEventIndex (live_of q)
+HasMuted q w (Some store) =
+    LacksEventIndex (live_of q)
+    × (store.address ≡ wish_at q)
+    × ShowsWish q store.bytes (done w Muted false).event (done w Muted false).muted
+
+abbrev pub MuteReports : Type 0
+MuteReports =
+    (q : QueueState) (w : World)
+    → IsWorldOf q w
+    → HasMuted q w (notification_store q false)
+    × IsTrue (may_report (ways_of q) Mutes w Muted false)
+    × IsWorldOf q (done w Muted false)
+
+-- a chain that is given up is dropped, as EntersDropping has it
+abbrev pub DropReports : Type 0
+DropReports =
+    (q : QueueState) (out : InFlight) (w : World)
+    → HasU16Numbers q
+    → give_up_error (at.Taken out) q ≡ None
+    → IsWorldOf q w
+    → IsTrue (nat_lt 0 w.out)
+    × IsWorldOf (gave_up q) (record w { position = back w.position 1; out = w.out - 1 })
 
 abbrev pub PushReports : Type 0
 PushReports =

@@ -1,12 +1,12 @@
 -- Each run of worlds is one of the model.
-use Rattle.std.proofs.Common.{arith, ◌≡◌, ℕ, ◌+◌, inl, inr, Bool, true, false, List, [], ◌∷◌}
+use Rattle.std.proofs.Common.{arith, ◌≡◌, ℕ, ◌+◌, ◌^◌, ◌<◌, ◌≤◌, ◌⊎◌, inl, inr, Bool, true, false, List, [], ◌∷◌}
 use Rattle.std.proofs.Common.{refl, sym, subst, ap, ◌∙◌}
 use Rattle.std.proofs.lemmas.Bool.{or_from, cases_Bool}
 use Rattle.notify.specs.Threads.{right_ways, Holder, Nobody, ThreadedQueue, after_act, ActsOver, opened}
 use Rattle.notify.specs.Threads.{NoneIsLostAmongThreads, ThreadStep}
 use Rattle.fs_turns.specs.declared.machine.TurnPhase.{TurnPhase}
 use Rattle.fs_turns.specs.Worlds.{World, Move, after_move, Moves, begun}
-use Rattle.fs_turns.specs.Worlds.{IsForgotten, NoTurnIsLost}
+use Rattle.fs_turns.specs.Worlds.{IsForgotten, HasChain, NoTurnIsLost}
 use Rattle.fs_turns.specs.Worlds.{NoInterruptIsLost}
 use Rattle.fs_turns.proofs.Tracks.{is_resuming}
 use Rattle.fs_turns.proofs.Tracks.{IsAhead, Kept, holder_at, model_of, Tracked, Goes, stop, acts}
@@ -19,7 +19,7 @@ joined size most b m [] w n run g = subst (Goes size most b w) run g
 joined size most b m (e ∷ es) w n run g =
     acts size most b w m e run.0 (joined size most b (after_act (right_ways size most b) m e) es w n run.1 g)
 
-follows : (size most : ℕ) (b : Bool) (w : World) (o p : Bool) (c : ℕ) (h : Holder) (es : List Move) (end : World) → Tracked w o p c h
+pub follows : (size most : ℕ) (b : Bool) (w : World) (o p : Bool) (c : ℕ) (h : Holder) (es : List Move) (end : World) → Tracked w o p c h
     → Kept b most w
     → Moves (right_ways size most b) w es end
     → Goes size most b end (model_of w o p c h)
@@ -60,12 +60,14 @@ nobody_ahead : (w : World) → IsForgotten w → IsAhead w → ⊥
 nobody_ahead w lost (inl pending) = true_false w.pending pending lost.not_pending
 nobody_ahead w lost (inr some) = omega (arith, some, lost.none_woken, lost.none_coming, lost.none_signals)
 
-pub no_turn_is_lost : NoneIsLostAmongThreads → NoTurnIsLost
-no_turn_is_lost law size most place waiting event threads by_event muted es end small fits few run lost (inr answered) =
-    let g = begins size most place waiting event by_event muted threads es end run in
+pub not_lost :
+    NoneIsLostAmongThreads → (size most place waiting event threads : ℕ) (by_event muted : Bool) (end : World)
+    → size < 2 ^ 16 → place < 2 ^ 16 → waiting ≤ size
+    → Goes size most by_event end (opened place waiting event muted threads)
+    → IsForgotten end → HasChain (right_ways size most by_event) end ⊎ (0 < end.answered) → ⊥
+not_lost law size most place waiting event threads by_event muted end small fits few g lost (inr answered) =
     nobody_ahead end lost (g.kept.rests (ap is_resuming lost.nobody) lost.sleeps answered)
-no_turn_is_lost law size most place waiting event threads by_event muted es end small fits few run lost (inl chain) =
-    let g = begins size most place waiting event by_event muted threads es end run in
+not_lost law size most place waiting event threads by_event muted end small fits few g lost (inl chain) =
     let uncalled : end.turns.called ≡ false = elim (cases_Bool end.turns.called) [
       | inl called ↦ elim (g.kept.called called) [
         | inl pending ↦ absurd (true_false end.pending pending lost.not_pending)
@@ -92,6 +94,11 @@ no_turn_is_lost law size most place waiting event threads by_event muted es end 
     unowed : (o owes : Bool) → (o ≡ true → owes ≡ true) → owes ≡ false → o ≡ false
     unowed true owes debt not_so = absurd (true_false owes (debt refl) not_so)
     unowed false owes debt not_so = refl
+
+pub no_turn_is_lost : NoneIsLostAmongThreads → NoTurnIsLost
+no_turn_is_lost law size most place waiting event threads by_event muted es end small fits few run lost which =
+    not_lost law size most place waiting event threads by_event muted end small fits few
+    (begins size most place waiting event by_event muted threads es end run) lost which
 
 pub no_interrupt_is_lost : NoInterruptIsLost
 no_interrupt_is_lost size most place waiting event threads by_event muted es end run free none =

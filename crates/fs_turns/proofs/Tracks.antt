@@ -13,7 +13,8 @@ use Rattle.fs_turns.specs.declared.machine.Notifications.TheVariants.{Unknown, D
 use Rattle.fs_turns.specs.declared.machine.TurnPhase.{TurnPhase}
 use Rattle.fs_turns.specs.declared.machine.TurnPhase.TheVariants.{Free, Resumes, Pops, ArmsToSleep, ArmsToAnswer, Looks, Mutes}
 use Rattle.fs_turns.specs.declared.machine.TurnAction.TheVariants as act
-use Rattle.fs_turns.specs.Next.{Next, stays, leaves, wakes_one, arms, is_enabled_at, is_disabled, is_idle, is_quiet, mutes, hands_on, rests}
+use Rattle.fs_turns.specs.Next.{Next, stays, leaves, wakes_one, arms, is_enabled_at, is_disabled, is_idle, is_quiet, mutes, hands_on}
+use Rattle.fs_turns.specs.Next.{rests}
 use Rattle.fs_turns.specs.Next.{finds_none}
 use Rattle.fs_turns.specs.Next as machine
 use Rattle.fs_turns.specs.Worlds.{World, is_arming, settles, seen_of}
@@ -127,7 +128,7 @@ free_mutes : (p : TurnPhase) → p ≡ Free → p ≡ Mutes → ⊥
 free_mutes p a b = cc
 
 -- nor has a thread the lock
-freed : (b : Bool) (most : ℕ) (w : World) → w.turns.phase ≡ Free → w.turns.by_event ≡ b
+pub freed : (b : Bool) (most : ℕ) (w : World) → w.turns.phase ≡ Free → w.turns.by_event ≡ b
     → w.turns.sleeping ≡ w.sleepers + w.woken → (w.turns.called ≡ true → IsCalled w) → w.stored ≡ false → w.hidden ≡ false
     → IsSo b w.turns.notifications w.event w.muted w.hidden
     → (0 < w.sleepers → 0 < w.answered → IsAhead w)

@@ -1,2 +1,3 @@
+pub mod Lives
 pub mod Next
 pub mod Worlds

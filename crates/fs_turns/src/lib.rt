@@ -5,6 +5,7 @@
 //! they get the lock, and any driver that keeps VIRTIO 1.2: `law_no_turn_is_lost`.
 #![tactic(auto)]
 
+ghost use Rattle.fs_turns.specs.Lives.{NoTurnIsLostOverResets, NoInterruptIsLostOverResets};
 ghost use Rattle.fs_turns.specs.Worlds.{NoTurnIsLost, NoInterruptIsLost};
 
 mod machine;
@@ -16,10 +17,13 @@ use notify::law_no_lost_notification;
 /// driver that keeps VIRTIO 1.2 (2.7.13, 2.7.14), with `VIRTIO_F_EVENT_IDX` or without, are a run of
 /// the model of notifications. So while a thread sleeps and no thread is going to look, no chain is
 /// available that the driver has checked, and no chain waits whose answer came later. While a push wants
-/// an interrupt, a thread has yet to make one, or holds the lock.
+/// an interrupt, a thread has yet to make one, or holds the lock. The same holds if the queue was reset while
+/// threads slept ([`Turns::reset`]).
 pub fn law_no_turn_is_lost()
     ensures none_lost { NoTurnIsLost }
     ensures none_forgotten { NoInterruptIsLost }
+    ensures none_lost_over_resets { NoTurnIsLostOverResets }
+    ensures none_forgotten_over_resets { NoInterruptIsLostOverResets }
 {
     law_no_lost_notification();
 }
