@@ -112,8 +112,11 @@ class Daemon:
 
     def threads(self):
         """The threads of all its processes."""
-        return [int(thread) for pid in self.processes()
-            for thread in os.listdir(f"/proc/{pid}/task")]
+        threads = []
+        for pid in self.processes():
+            with suppress(FileNotFoundError): # it has ended
+                threads += map(int, os.listdir(f"/proc/{pid}/task"))
+        return threads
 
     def said(self):
         """Its log."""

@@ -18,7 +18,9 @@ from rows import Row
 
 A_WHILE = 0.06
 TIMES = 3
-PTRACE_ATTACH, PTRACE_DETACH, WALL = 16, 17, 0x40000000
+PTRACE_CONT, PTRACE_ATTACH, PTRACE_DETACH, WALL = 7, 16, 17, 0x40000000
+# A thread that has ended.
+GONE = ProcessLookupError, PermissionError, ChildProcessError
 LIBC = ctypes.CDLL(None, use_errno=True)
 LIBC.ptrace.argtypes = [ctypes.c_long, ctypes.c_long, ctypes.c_void_p, ctypes.c_void_p]
 
@@ -34,11 +36,11 @@ def wait_until(what, holds):
 def stop(daemon):
     """SIGSTOP and SIGCONT to each process, as `kill -STOP` or a shell's ^Z has it."""
     processes = daemon.processes()
-    for pid in processes:
-        os.kill(pid, signal.SIGSTOP)
-    time.sleep(A_WHILE)
-    for pid in processes:
-        os.kill(pid, signal.SIGCONT)
+    for number in (signal.SIGSTOP, signal.SIGCONT):
+        for pid in processes:
+            with suppress(ProcessLookupError): # it has ended
+                os.kill(pid, number)
+        time.sleep(A_WHILE if number == signal.SIGSTOP else 0)
 
 
 class Cgroup:
@@ -47,8 +49,9 @@ class Cgroup:
     def __init__(self, daemon):
         self.path = tempfile.mkdtemp(prefix="operate-", dir=unified())
         for pid in daemon.processes():
-            with open(self.path + "/cgroup.procs", "w", encoding="utf-8") as file:
-                file.write(str(pid))
+            with suppress(ProcessLookupError), open(self.path + "/cgroup.procs", "wb",
+                    buffering=0) as file:
+                file.write(str(pid).encode())
 
     def set(self, is_frozen):
         with open(self.path + "/cgroup.freeze", "w", encoding="utf-8") as file:
@@ -83,20 +86,35 @@ def freeze(daemon):
     daemon.group.set(0)
 
 
-def ptrace(request, thread):
-    if LIBC.ptrace(request, thread, None, None) < 0:
+def ptrace(request, thread, number=None):
+    if LIBC.ptrace(request, thread, None, number) < 0:
         raise OSError(ctypes.get_errno(), f"ptrace {request} of {thread}")
+
+
+def attach(thread):
+    """Attaches to a thread, which stops by SIGSTOP. It may stop by another signal first."""
+    ptrace(PTRACE_ATTACH, thread)
+    while True:
+        status = os.waitpid(thread, WALL)[1]
+        if not os.WIFSTOPPED(status) or os.WSTOPSIG(status) == signal.SIGSTOP:
+            return
+        ptrace(PTRACE_CONT, thread, os.WSTOPSIG(status))
 
 
 def trace(daemon):
     """As `gdb -p` does, which attaches to each thread and detaches."""
-    threads = daemon.threads()
-    for thread in threads:
-        ptrace(PTRACE_ATTACH, thread)
-        os.waitpid(thread, WALL)
+    threads = []
+    for thread in daemon.threads():
+        with suppress(*GONE):
+            attach(thread)
+            threads.append(thread)
     time.sleep(A_WHILE)
     for thread in threads:
-        ptrace(PTRACE_DETACH, thread)
+        try:
+            ptrace(PTRACE_DETACH, thread)
+        except ProcessLookupError: # its process ends, and only the debugger may wait for it
+            with suppress(*GONE):
+                os.waitpid(thread, WALL)
 
 
 class Load:
