@@ -49,6 +49,12 @@ impl Doing {
         self.unique.store(unique, Ordering::Relaxed);
     }
 
+    /// The opcode of the chain's request; 0 if it has none.
+    #[inline]
+    pub fn opcode(&self) -> u32 {
+        self.opcode.load(Ordering::Relaxed)
+    }
+
     /// Forgets the chain, which is returned or dropped.
     pub fn end(&self) {
         self.chain.store(0, Ordering::Relaxed);
@@ -67,6 +73,11 @@ impl Doing {
     /// Whether the host has a call of the thread's: of a dropped chain too.
     pub fn is_at_the_host(&self) -> bool {
         self.chain.load(Ordering::Relaxed) != 0 && !self.is_waiting.load(Ordering::SeqCst)
+    }
+
+    /// Whether the thread is in a call of the host for a chain of the ring's.
+    pub fn is_in_call(&self) -> bool {
+        self.is_in_flight() && self.is_away.load(Ordering::SeqCst)
     }
 
     /// The thread goes to the host, or has returned from it. Ordered with the loads and stores of

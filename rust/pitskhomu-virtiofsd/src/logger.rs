@@ -5,7 +5,7 @@ mod errors;
 mod limits;
 
 pub use errors::{lead as lead_errors, without_errors};
-use limits::{Limits, Line};
+use limits::{Limits, Line, LEFT_OUT};
 use log::{Level, Log, Metadata, Record};
 use std::env;
 use std::error::Error;
@@ -166,6 +166,7 @@ impl Shared {
         };
         if !is_passed {
             self.lost.fetch_add(1, Ordering::Relaxed);
+            LEFT_OUT.fetch_add(1, Ordering::Relaxed);
         }
     }
 
@@ -232,6 +233,11 @@ impl Log for Logger {
     fn flush(&self) {
         self.0.wait_for(ToWrite::Written);
     }
+}
+
+/// The number of lines that were left out so far.
+pub fn lines_left_out() -> u64 {
+    LEFT_OUT.load(Ordering::Relaxed)
 }
 
 /// Whether the log's target takes a line at once: a pipe that nobody reads is full some time.

@@ -12,6 +12,7 @@ mod marks;
 mod memory;
 mod migration;
 mod notifier;
+mod numbers;
 mod open_flags;
 mod options;
 mod paths;
@@ -39,6 +40,7 @@ const CAPABILITIES: &str = r#"{
 }"#;
 
 fn main() -> ExitCode {
+    numbers::begin();
     let options = Options::parse().with_compat().unwrap_or_else(|e| e.exit());
     if options.print_capabilities {
         println!("{CAPABILITIES}");

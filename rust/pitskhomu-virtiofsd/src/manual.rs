@@ -18,6 +18,13 @@ The daemon's process number, while it runs.
 .TP
 /usr/share/qemu/vhost\-user/50\-pitskhomu\-virtiofsd.json
 By this file libvirt and other managers find the daemon.
+.SH SIGNALS
+.TP
+SIGUSR1
+Numbers are written to the log: requests by opcode with their times, chains in flight, descriptors.
+.TP
+SIGTERM, SIGINT, SIGHUP
+The daemon ends, with status 0.
 .SH "EXIT STATUS"
 0 if the front\-end has left, 1 after an error that the log names, 2 for a wrong command line.
 .SH EXAMPLES

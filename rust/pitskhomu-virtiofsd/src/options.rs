@@ -38,7 +38,7 @@ use virtiofsd::soft_idmap::cmdline::IdMap;
 pub struct Options {
     /// The directory that the guest sees
     ///
-    /// A file can be shared, too. The directory must exist before the daemon starts.
+    /// It must exist before the daemon starts. With --sandbox none it can be a file.
     #[arg(long, required_unless_present_any = ["compat_options", "print_capabilities"])]
     pub shared_dir: Option<String>,
     /// The same as --socket-path [deprecated]
@@ -385,6 +385,13 @@ pub struct Options {
     /// The log goes to syslog (/dev/log), not to standard error
     #[arg(long)]
     pub syslog: bool,
+    /// The path of a socket that serves numbers of the daemon, for Prometheus
+    ///
+    /// A GET by HTTP returns requests by opcode with a histogram of their times, chains in flight,
+    /// calls that the host holds, interrupts, sleeps, descriptors, and lines that the log left out.
+    /// Only the daemon's user can connect. SIGUSR1 writes the same numbers to the log.
+    #[arg(long, conflicts_with = "print_capabilities")]
+    pub metrics: Option<PathBuf>,
     /// Print what the daemon can, as JSON for vhost-user.json, and exit
     #[arg(long)]
     pub print_capabilities: bool,

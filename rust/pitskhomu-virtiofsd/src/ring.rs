@@ -23,7 +23,7 @@ use std::fs::File;
 use std::io;
 use std::sync::atomic::{AtomicBool, AtomicUsize};
 use std::sync::{Arc, MutexGuard};
-pub use waits::{Patience, LAST_CHAINS};
+pub use waits::{Numbers as RingNumbers, Patience, LAST_CHAINS};
 
 /// The greatest queue size that the library allows.
 pub const SIZE_MAX: u16 = 32768;
@@ -60,6 +60,9 @@ pub struct State {
     is_refused: bool,
     /// The number of threads that serve the ring.
     served_by: usize,
+    /// How often a thread slept, since it found no chain, and how often the driver was interrupted.
+    sleeps: u64,
+    interrupts: u64,
     /// The guest's memory. Chains in flight keep the one that they were taken from.
     memory: Arc<Table>,
     /// The memory over which chains were in flight when the ring was closed.
@@ -116,6 +119,7 @@ impl State {
     /// as soon as there is one.
     fn interrupt(&mut self) -> Option<Arc<Notifier>> {
         self.owes_call = self.call.is_none();
+        self.interrupts += 1;
         self.call.clone()
     }
 

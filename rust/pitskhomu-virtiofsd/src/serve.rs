@@ -6,6 +6,7 @@ use crate::guest_cache::GuestCache;
 use crate::in_flight::Doing;
 use crate::iommu::Cancel;
 use crate::memory::Table;
+use crate::numbers::{self, Counts, Numbers};
 use crate::open_flags::OpenFlags;
 use crate::ring::{Patience, Ring, Server, LAST_CHAINS};
 use log::{debug, error};
@@ -42,6 +43,8 @@ pub struct Core<F> {
     pub cache: GuestCache,
     /// What each session agrees on.
     pub always_agreed: pitskhomu::Options,
+    /// What the threads count.
+    pub numbers: Numbers,
     /// The number of calls of an earlier session that may change the next one.
     late: Arc<AtomicUsize>,
     /// The end of a session is under way.
@@ -89,6 +92,7 @@ impl<F: ServedFs> Core<F> {
             flags,
             cache,
             always_agreed,
+            numbers: Numbers::new(),
             late,
             is_ending: AtomicBool::new(false),
             ending: OnceLock::new(),
@@ -209,12 +213,14 @@ pub struct QueueWorker<F> {
     is_translated: bool,
     /// The pages that the front-end refuses to the next pop.
     refused: BTreeSet<u64>,
+    counts: Arc<Counts>,
 }
 
 impl<F: ServedFs> QueueWorker<F> {
     /// A worker for the ring with this index.
     pub fn new(core: Arc<Core<F>>, index: usize) -> QueueWorker<F> {
         QueueWorker {
+            counts: core.numbers.of_thread(),
             core,
             index,
             worker: pitskhomu::Worker::new(),
@@ -260,6 +266,9 @@ impl<F: ServedFs> Server for QueueWorker<F> {
             return self.take_translated(queue, memory);
         }
         let is_popped = self.worker.pop(queue, &**memory)?;
+        if !is_popped {
+            self.counts.found_none();
+        }
         Ok(if is_popped { Taken::Chain } else { Taken::Idle })
     }
 
@@ -279,6 +288,7 @@ impl<F: ServedFs> Server for QueueWorker<F> {
 
     /// A call at which the file system panics is answered EIO, and the thread continues.
     fn answer(&mut self, doing: &Doing, memory: &Table) {
+        let begun = numbers::ticks();
         let core = &self.core;
         let ring = &core.rings[self.index];
         let (fs, cache) = (&core.fs, &core.cache);
@@ -296,6 +306,7 @@ impl<F: ServedFs> Server for QueueWorker<F> {
         if doing.take_late() {
             core.end_late();
         }
+        self.counts.answered(doing.opcode(), numbers::ticks().wrapping_sub(begun));
     }
 
     fn give_back(&mut self, queue: &mut Queue, memory: &Arc<Table>) -> Result<bool, Status> {

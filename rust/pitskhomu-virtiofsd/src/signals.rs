@@ -1,5 +1,6 @@
 //! Signals: those that end the daemon, and faults, which the log names before the daemon ends.
 use crate::logger::write_at_the_end;
+use crate::numbers::on_signal;
 use libc::{c_int, c_void, sighandler_t, siginfo_t};
 use std::mem::{transmute, MaybeUninit};
 use std::ptr;
@@ -84,7 +85,8 @@ fn set(signal: c_int, handler: Handler) -> Option<sighandler_t> {
 /// Sets the handlers. The daemon is the first process of its namespace, so without a handler it
 /// wouldn't receive SIGHUP, SIGINT and SIGTERM. SIGXFSZ is ignored, so that a write past
 /// `RLIMIT_FSIZE` is answered EFBIG. The process that started the daemon may have signals blocked,
-/// and SIGCHLD ignored: then the parent of the namespace would get no status of its child.
+/// and SIGCHLD ignored: then the parent of the namespace would get no status of its child. SIGUSR1
+/// asks for the daemon's numbers.
 pub fn handle() {
     for signal in [libc::SIGHUP, libc::SIGINT, libc::SIGTERM] {
         set(signal, end);
@@ -99,6 +101,7 @@ pub fn handle() {
     let mut none = MaybeUninit::uninit();
     // SAFETY: the set is initialized before it is read, and no other memory is touched.
     unsafe {
+        libc::signal(libc::SIGUSR1, on_signal as *const () as sighandler_t); // restarts calls
         libc::signal(libc::SIGXFSZ, libc::SIG_IGN);
         libc::signal(libc::SIGCHLD, libc::SIG_DFL);
         libc::sigemptyset(none.as_mut_ptr());

@@ -60,7 +60,7 @@ fn number_file(path: &Path) -> io::Result<File> {
 }
 
 /// Binds the socket, and first removes one that an earlier daemon left there.
-fn bind(path: &Path, group: Option<u32>) -> io::Result<UnixListener> {
+pub fn bind(path: &Path, group: Option<u32>) -> io::Result<UnixListener> {
     if fs::symlink_metadata(path).is_ok_and(|metadata| metadata.file_type().is_socket()) {
         fs::remove_file(path)?;
     }

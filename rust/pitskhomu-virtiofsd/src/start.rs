@@ -5,6 +5,7 @@ use crate::front_end::FrontEnd;
 use crate::guest_cache::GuestCache;
 use crate::iommu;
 use crate::logger::{self, Logger};
+use crate::numbers;
 use crate::open_flags::OpenFlags;
 use crate::options::Options;
 use crate::paths;
@@ -204,6 +205,7 @@ pub fn run(mut options: Options, logger: &Logger) -> Result<(), Failure> {
     let scratch = state::scratch()?;
     let Socket { listener, number } = Socket::open(&options)?;
     let mut control = Control::new(&options, Path::new(&shared_dir), (record, number))?;
+    let mut asked = numbers::Asked::new(options.metrics.as_deref())?;
     let listener = sandbox
         .enter(listener)
         .map_err(|e| format!("Error entering sandbox: {shared_dir}: {}", sandbox_error(e)))?;
@@ -211,7 +213,8 @@ pub fn run(mut options: Options, logger: &Logger) -> Result<(), Failure> {
     control.enter();
 
     let proc_self_fd = sandbox.get_proc_self_fd();
-    let kept = Kept { capabilities, scratch, control };
+    asked.enter(proc_self_fd.as_ref());
+    let kept = Kept { capabilities, scratch, control, asked };
     let serving = Serving::new(&mut options, listener, kept);
     let readonly = options.readonly;
     let config = config(options, &mut sandbox, proc_self_fd, guest_descriptors);
@@ -227,6 +230,7 @@ struct Kept {
     capabilities: capabilities::Changes,
     scratch: File,
     control: Control,
+    asked: numbers::Asked,
 }
 
 /// The options and objects that serving needs besides the file system.
@@ -243,13 +247,14 @@ struct Serving {
     cache: GuestCache,
     always_agreed: pitskhomu::Options,
     control: Control,
+    asked: numbers::Asked,
     /// The listener is a connection to the daemon that this one takes over from.
     takes_over: bool,
 }
 
 impl Serving {
     fn new(options: &mut Options, listener: Listener, kept: Kept) -> Serving {
-        let Kept { capabilities, scratch, control } = kept;
+        let Kept { capabilities, scratch, control, asked } = kept;
         Serving {
             listener,
             scratch,
@@ -267,6 +272,7 @@ impl Serving {
             cache: options.guest_cache(),
             always_agreed: options.always_agreed(),
             control,
+            asked,
             takes_over: options.take_over.is_some(),
         }
     }
@@ -280,6 +286,7 @@ impl Serving {
         system_calls::limit(self.seccomp, self.syslog)?; // new threads inherit it
         logger.start().map_err(|e| no_thread("the log's thread", &e))?;
         core.start().map_err(|e| no_thread("the session's thread", &e))?;
+        self.asked.start(core.clone()).map_err(|e| no_thread("the thread for the numbers", &e))?;
         start_threads(&core)?;
         let front_end = FrontEnd::new(core.clone(), self.tag, self.scratch)?;
         let front_end = Arc::new(Mutex::new(front_end));

@@ -15,7 +15,7 @@
 //! agrees on are taken as agreed. virtiofsd's own part is accepted only if its numbers may be
 //! (`inner`).
 mod inner;
-mod pipe;
+pub mod pipe;
 
 use crate::open_flags::OpenFlags;
 use crate::serve::{Core, ServedFs};

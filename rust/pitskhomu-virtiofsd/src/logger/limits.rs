@@ -1,6 +1,7 @@
 //! The limits of the log's lines. A guest can cause lines without end, and must not fill the log.
 use log::{Level, Record};
 use std::collections::HashMap;
+use std::sync::atomic::{AtomicU64, Ordering};
 use std::time::{Duration, Instant};
 
 /// The lines of one kind that a period has.
@@ -11,6 +12,9 @@ pub const LONGEST_LINE: usize = 1024;
 pub const FIRST_PERIOD: Duration = Duration::from_secs(60);
 /// The longest period.
 pub const LONGEST_PERIOD: Duration = Duration::from_secs(60 * 60);
+
+/// The number of all lines that were left out.
+pub static LEFT_OUT: AtomicU64 = AtomicU64::new(0);
 
 /// A line of the log, with its own text.
 #[derive(Debug, Clone, PartialEq, Eq)]
@@ -110,6 +114,7 @@ impl Kind {
             return true;
         }
         self.left_out += 1;
+        LEFT_OUT.fetch_add(1, Ordering::Relaxed);
         self.last = Some(line.clone());
         false
     }

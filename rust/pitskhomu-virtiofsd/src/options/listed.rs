@@ -19,6 +19,7 @@ const FREE: &[&str] = &[
     "inode-file-handles",
     "keep-cache",
     "log-level",
+    "metrics",
     "migration-confirm-paths",
     "migration-mode",
     "migration-on-error",

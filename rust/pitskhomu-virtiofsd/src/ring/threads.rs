@@ -120,7 +120,8 @@ impl<S: Server> live::Server<State> for Thread<'_, S> {
         warn!("queue {}: kicks aren't heard any more", self.ring.index);
     }
 
-    fn rests(&mut self, _state: &mut State) -> bool {
+    fn rests(&mut self, state: &mut State) -> bool {
+        state.sleeps += 1;
         self.table = None;
         false
     }

@@ -19,6 +19,19 @@ const TAKING: Duration = Duration::from_millis(50);
 /// If none is taken or returned for so long, the next one may take too long, and isn't taken.
 const QUICK: Duration = Duration::from_millis(15);
 
+/// The numbers of a ring, for the operator.
+#[derive(Debug, Clone, Copy)]
+pub struct Numbers {
+    /// Chains that were taken, and not returned.
+    pub in_flight: u16,
+    /// Threads that are in a call of the host.
+    pub at_the_host: usize,
+    /// How often a thread slept.
+    pub sleeps: u64,
+    /// How often the driver was to be interrupted.
+    pub interrupts: u64,
+}
+
 /// How long a message waits for chains, of all its rings.
 #[derive(Debug, Clone, Copy)]
 pub struct Patience {
@@ -93,6 +106,14 @@ impl Ring {
         let state = self.lock();
         (state.queue.in_flight() > 0)
             .then(|| format!("queue {}: {}", self.index, self.held_calls()))
+    }
+
+    /// What the ring counts, and what it does now.
+    pub fn numbers(&self) -> Numbers {
+        let state = self.lock();
+        let at_the_host = self.doing.iter().filter(|doing| doing.is_in_call()).count();
+        let (sleeps, interrupts) = (state.sleeps, state.interrupts);
+        Numbers { in_flight: state.queue.in_flight(), at_the_host, sleeps, interrupts }
     }
 
     /// Whether chains are in flight that don't end before the ring goes on.

@@ -14,20 +14,24 @@ pub struct Pipe {
     end: File,
     /// Ready when bytes can be transferred: `None` for a file, which is always ready.
     events: Option<Epoll>,
+    /// The longest time in which no byte is transferred.
+    longest: Duration,
 }
 
 impl Pipe {
     /// The end by which the daemon sends a state.
     pub fn out(end: File) -> io::Result<Pipe> {
-        Pipe::new(end, EventSet::OUT)
+        Pipe::new(end, EventSet::OUT, LONGEST_PAUSE)
     }
 
     /// The end by which the daemon receives a state.
     pub fn into(end: File) -> io::Result<Pipe> {
-        Pipe::new(end, EventSet::IN)
+        Pipe::new(end, EventSet::IN, LONGEST_PAUSE)
     }
 
-    fn new(end: File, ready: EventSet) -> io::Result<Pipe> {
+    /// An end of any pipe or socket, which is waited for until it is `ready`, but not longer than
+    /// this.
+    pub fn new(end: File, ready: EventSet, longest: Duration) -> io::Result<Pipe> {
         let fd = end.as_raw_fd();
         // SAFETY: the descriptor is open, and no memory is touched.
         unsafe {
@@ -38,8 +42,10 @@ impl Pipe {
         }
         let events = Epoll::new()?;
         match events.ctl(ControlOperation::Add, fd, EpollEvent::new(ready, 0)) {
-            Ok(()) => Ok(Pipe { end, events: Some(events) }),
-            Err(e) if e.raw_os_error() == Some(libc::EPERM) => Ok(Pipe { end, events: None }),
+            Ok(()) => Ok(Pipe { end, events: Some(events), longest }),
+            Err(e) if e.raw_os_error() == Some(libc::EPERM) => {
+                Ok(Pipe { end, events: None, longest })
+            }
             Err(e) => Err(e),
         }
     }
@@ -57,9 +63,9 @@ impl Pipe {
             }
             let Some(events) = &self.events else { return Err(io::ErrorKind::WouldBlock.into()) };
             #[allow(clippy::cast_possible_truncation, reason = "a minute has 60,000 milliseconds")]
-            let milliseconds = LONGEST_PAUSE.as_millis() as i32;
+            let milliseconds = self.longest.as_millis() as i32;
             if events.wait(milliseconds, &mut [EpollEvent::default()])? == 0 {
-                let why = format!("the front-end {idle} for {} s", LONGEST_PAUSE.as_secs());
+                let why = format!("the front-end {idle} for {} s", self.longest.as_secs());
                 return Err(io::Error::new(io::ErrorKind::TimedOut, why));
             }
         }

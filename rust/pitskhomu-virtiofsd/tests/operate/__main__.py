@@ -14,6 +14,7 @@ sys.dont_write_bytecode = True
 import ends
 import limits
 import logs
+import metrics
 import paths
 import pauses
 import replaced
@@ -50,7 +51,8 @@ def main():
     signal.signal(signal.SIGIO, lambda *_: None) # of leases
     programs = [[shutil.which(words[0]), *words[1:]] for words in (sys.argv[1:2], sys.argv[2:])
         if words]
-    rows = [row for part in (pauses, replaced, ends, limits, logs, paths) for row in part.rows()
+    parts = (pauses, replaced, ends, limits, logs, metrics, paths)
+    rows = [row for part in parts for row in part.rows()
         if os.environ.get("ROWS", "") in row.name]
     if not may_sandbox():
         print("operate: not tried, since no namespaces can be made here")

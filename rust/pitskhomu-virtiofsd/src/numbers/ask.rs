@@ -1,0 +1,184 @@
+//! Who asks for the numbers: SIGUSR1, which writes them to the log, and the socket of --metrics,
+//! which Prometheus reads by HTTP.
+use super::report::{self, Sources};
+use crate::serve::{Core, ServedFs};
+use crate::socket;
+use crate::state::pipe::Pipe;
+use log::{info, warn};
+use std::fs::File;
+use std::io::{self, Read, Write};
+use std::os::fd::{AsRawFd, OwnedFd, RawFd};
+use std::os::unix::net::UnixListener;
+use std::path::Path;
+use std::sync::atomic::{AtomicI32, Ordering};
+use std::sync::Arc;
+use std::thread;
+use std::time::Duration;
+use vmm_sys_util::epoll::{ControlOperation, Epoll, EpollEvent, EventSet};
+use vmm_sys_util::eventfd::EventFd;
+
+/// The longest that a reader of the socket may pause.
+const LONGEST_PAUSE: Duration = Duration::from_secs(5);
+/// The most bytes of a reader's request.
+const MOST_ASKED: usize = 8192;
+
+/// The event of SIGUSR1; -1 until there is one. The parent of the sandbox has the same event.
+static SIGNALLED: AtomicI32 = AtomicI32::new(-1);
+/// What is written to the event.
+static ONE: u64 = 1;
+
+/// The handler of SIGUSR1.
+pub extern "C" fn on_signal(_signal: libc::c_int) {
+    // SAFETY: a signal handler may make these calls. Eight bytes are read, and `errno` is restored.
+    unsafe {
+        let errno = *libc::__errno_location();
+        libc::write(SIGNALLED.load(Ordering::Relaxed), (&raw const ONE).cast(), 8);
+        *libc::__errno_location() = errno;
+    }
+}
+
+/// Blocks or allows SIGUSR1 in this thread, and in those that it starts.
+fn hold_signal(is_held: bool) {
+    let mut signals = std::mem::MaybeUninit::uninit();
+    let how = if is_held { libc::SIG_BLOCK } else { libc::SIG_UNBLOCK };
+    // SAFETY: the set is initialized by the first call.
+    unsafe {
+        libc::sigemptyset(signals.as_mut_ptr());
+        libc::sigaddset(signals.as_mut_ptr(), libc::SIGUSR1);
+        libc::pthread_sigmask(how, signals.as_ptr(), std::ptr::null_mut());
+    }
+}
+
+/// Makes the socket of --metrics, to which only its owner can connect.
+fn listen(path: &Path) -> Result<UnixListener, String> {
+    let listener = socket::bind(path, None)
+        .and_then(|listener| listener.set_nonblocking(true).map(|()| listener));
+    listener.map_err(|e| format!("Error creating the socket of the metrics: {e}"))
+}
+
+fn add(events: &Epoll, fd: RawFd) -> io::Result<()> {
+    events.ctl(ControlOperation::Add, fd, EpollEvent::new(EventSet::IN, 0))
+}
+
+/// Reads a request of HTTP to its end.
+fn read_request(reader: &mut impl Read) -> io::Result<Vec<u8>> {
+    let (mut request, mut bytes) = (Vec::new(), [0; 1024]);
+    while !request.windows(4).any(|end| end == b"\r\n\r\n") && request.len() < MOST_ASKED {
+        match reader.read(&mut bytes)? {
+            0 => break,
+            len => request.extend_from_slice(&bytes[..len]),
+        }
+    }
+    Ok(request)
+}
+
+/// The response to a request.
+fn response(request: &[u8], text: impl FnOnce() -> String) -> String {
+    let (status, text) = if request.starts_with(b"GET ") {
+        ("200 OK", text())
+    } else {
+        ("400 Bad Request", String::new())
+    };
+    let len = text.len();
+    format!(
+        "HTTP/1.1 {status}\r\nContent-Type: text/plain; version=0.0.4\r\n\
+        Content-Length: {len}\r\nConnection: close\r\n\r\n{text}"
+    )
+}
+
+/// Answers one reader of the socket.
+fn answer(reader: File, text: impl FnOnce() -> String) -> io::Result<()> {
+    let mut asked = Pipe::new(reader.try_clone()?, EventSet::IN, LONGEST_PAUSE)?;
+    let request = read_request(&mut asked)?;
+    let mut answered = Pipe::new(reader, EventSet::OUT, LONGEST_PAUSE)?;
+    answered.write_all(response(&request, text).as_bytes())
+}
+
+/// What the thread that answers needs.
+pub struct Asked {
+    /// The event of SIGUSR1.
+    signalled: EventFd,
+    /// The socket of --metrics.
+    listener: Option<UnixListener>,
+    sources: Sources,
+}
+
+impl Asked {
+    /// Makes the event of SIGUSR1, and the socket of --metrics. Call it before the sandbox's fork:
+    /// the operator knows the number of the parent. An error is a message.
+    pub fn new(metrics: Option<&Path>) -> Result<Asked, String> {
+        let signalled = EventFd::new(libc::EFD_NONBLOCK | libc::EFD_CLOEXEC)
+            .map_err(|e| format!("Error creating an event: {e}"))?;
+        let listener = metrics.map(listen).transpose()?;
+        SIGNALLED.store(signalled.as_raw_fd(), Ordering::Relaxed);
+        Ok(Asked { signalled, listener, sources: Sources::new() })
+    }
+
+    /// From here on only the thread that answers gets SIGUSR1. Call it in the sandbox.
+    pub fn enter(&mut self, proc_self_fd: Option<&File>) {
+        hold_signal(true);
+        self.sources.enter(proc_self_fd);
+    }
+
+    /// Starts the thread. It must have the caller's filter and capabilities.
+    pub fn start<F: ServedFs>(self, core: Arc<Core<F>>) -> io::Result<()> {
+        let events = Epoll::new()?;
+        add(&events, self.signalled.as_raw_fd())?;
+        if let Some(listener) = &self.listener {
+            add(&events, listener.as_raw_fd())?;
+        }
+        let thread = thread::Builder::new().name("numbers".into());
+        thread.spawn(move || self.answer_all(&core, &events)).map(|_| ())
+    }
+
+    fn answer_all<F: ServedFs>(&self, core: &Core<F>, events: &Epoll) {
+        hold_signal(false);
+        loop {
+            let _ = events.wait(-1, &mut [EpollEvent::default()]);
+            if self.signalled.read().is_ok() {
+                for line in report::for_log(core, &self.sources) {
+                    info!("{line}");
+                }
+            }
+            let reader = self.listener.as_ref().and_then(|listener| listener.accept().ok());
+            if let Some((reader, _)) = reader {
+                let text = || report::for_prometheus(core, &self.sources);
+                if let Err(e) = answer(File::from(OwnedFd::from(reader)), text) {
+                    warn!("a reader of the metrics isn't answered: {e}");
+                }
+            }
+        }
+    }
+}
+
+#[cfg(test)]
+mod tests {
+    use super::*;
+    use std::os::unix::net::UnixStream;
+
+    fn answered(request: &[u8]) -> String {
+        let (ours, mut theirs) = UnixStream::pair().expect("a socket");
+        theirs.write_all(request).expect("a request");
+        answer(File::from(OwnedFd::from(ours)), || "numbers 1\n".into()).expect("an answer");
+        let mut text = String::new();
+        theirs.read_to_string(&mut text).expect("an answer");
+        text
+    }
+
+    #[test]
+    fn http_is_answered() {
+        let text = answered(b"GET /metrics HTTP/1.1\r\nHost: localhost\r\n\r\n");
+        assert!(text.starts_with("HTTP/1.1 200 OK\r\n") && text.ends_with("\r\n\r\nnumbers 1\n"));
+        assert!(text.contains("\r\nContent-Length: 10\r\n"), "{text}");
+        assert!(answered(b"PUT / HTTP/1.1\r\n\r\n").starts_with("HTTP/1.1 400 "));
+    }
+
+    #[test]
+    fn a_silent_reader_is_not_waited_for() {
+        let (ours, theirs) = UnixStream::pair().expect("a socket");
+        let asked =
+            Pipe::new(File::from(OwnedFd::from(ours)), EventSet::IN, Duration::from_millis(50));
+        assert!(read_request(&mut asked.expect("a socket")).is_err());
+        drop(theirs);
+    }
+}
