@@ -1,4 +1,5 @@
 pub mod Moving
+pub mod Pushes
 pub mod Reporting
 pub mod Resets
 pub mod Runs

@@ -1,3 +1,4 @@
 pub mod Lives
 pub mod Next
+pub mod Used
 pub mod Worlds

@@ -6,6 +6,7 @@
 #![tactic(auto)]
 
 ghost use Rattle.fs_turns.specs.Lives.{NoTurnIsLostOverResets, NoInterruptIsLostOverResets};
+ghost use Rattle.fs_turns.specs.Used.{NoUsedIsUnnotified};
 ghost use Rattle.fs_turns.specs.Worlds.{NoTurnIsLost, NoInterruptIsLost};
 
 mod machine;
@@ -15,15 +16,18 @@ use notify::law_no_lost_notification;
 
 /// Any number of threads that do what [`Turns::next`] returns and report what they did, beside any
 /// driver that keeps VIRTIO 1.2 (2.7.13, 2.7.14), with `VIRTIO_F_EVENT_IDX` or without, are a run of
-/// the model of notifications. So while a thread sleeps and no thread is going to look, no chain is
-/// available that the driver has checked, and no chain waits whose answer came later. While a push wants
-/// an interrupt, a thread has yet to make one, or holds the lock. The same holds if the queue was reset while
-/// threads slept ([`Turns::reset`]).
+/// the model of notifications.
+/// - While a thread sleeps and no thread is going to look, no chain is available that the driver has
+///   checked, unless the queue is paused, and no chain waits whose answer came later.
+/// - While a push wants an interrupt, a thread has yet to make one, or holds the lock. So while the
+///   driver sleeps and chains are used, an interrupt is on its way, or the same holds.
+/// - Both hold also if the queue was reset while threads slept ([`Turns::reset`]).
 pub fn law_no_turn_is_lost()
     ensures none_lost { NoTurnIsLost }
     ensures none_forgotten { NoInterruptIsLost }
     ensures none_lost_over_resets { NoTurnIsLostOverResets }
     ensures none_forgotten_over_resets { NoInterruptIsLostOverResets }
+    ensures none_unnotified { NoUsedIsUnnotified }
 {
     law_no_lost_notification();
 }
