@@ -16,7 +16,7 @@
  * <!-- examples/c/sketch.c: serve -->
  * ```
  * static uint32_t serve(bool *notify) {
- *     struct pk_pop pop;
+ *     struct pk_pop_result pop;
  *     uint32_t s;
  *     while ((s = pk_pop_ring(&chain, &queue, &ring, &pop)) == PK_DONE) {
  *         if (pop.fault == 0 && (s = serve_request(&pop)) != PK_DONE) break;
@@ -26,9 +26,14 @@
  * }
  * ```
  *
+ * TO BUILD: C99 or C++11, for Linux on x86-64. Link libpitskhomu.a, or libpitskhomu.so
+ * (-lpitskhomu). Both need malloc, realloc, free, memcpy, memmove and memset, and nothing else.
+ *
  * VERSIONS. A program runs with each later library of its major number (PK_VERSION). A later header
- * may add fields at the end of a struct, and kinds of calls: initialise structs with zeros, and
- * reply to an unknown kind with pk_reply_err(ENOSYS), unless its `answer` is NONE.
+ * may add kinds of calls: reply to an unknown kind with pk_reply_err(ENOSYS), unless its `answer`
+ * is NONE. It may add fields at the end of struct pk_pop_result, pk_call, pk_stores, pk_store,
+ * pk_miss, pk_entry and pk_statfs: initialise these with zeros. A program that isn't compiled again
+ * gets and passes the fields of its own header. No other struct grows.
  *
  * OBJECTS. `struct pk_device` and `struct pk_queue` hold plain numbers and may be copied. `struct
  * pk_chain`, a handle for one chain at a time, and `struct pk_iotlb` own memory: zero each before
@@ -41,8 +46,8 @@
  * pk_restore write: use a reader-writer lock.
  *
  * RULES for the caller. The library can't check them; it does refuse calls in a wrong order.
- *  1. A pointer is valid for its length, and never NULL, not even with length 0. An argument that
- *     the call writes overlaps no other.
+ *  1. A pointer is valid for its length; with length 0 it may be NULL. No other pointer is NULL. An
+ *     argument that the call writes overlaps no other.
  *  2. Load each byte once: copy it, pass the copy, and don't read the guest's byte again.
  *  3. A load of 2 bytes is one atomic load with acquire order. Other loads need no order.
  *     pk_pop_ring loads so.
@@ -82,20 +87,22 @@
  * that, loads, calls, replies (but your own bytes) and stores follow from the bytes and answers
  * passed, by VIRTIO 1.2 and the FUSE grammar: of one chain, in Rattle of many (PROVED.md).
  * TESTED, not proved: that pk_chain_free frees all; calls on a chain that moves between threads;
- * inline functions; the numbers that pk_chain_set_memory, pk_queue_begin and pk_restore give, which
- * are C (tools/pk_numbers.c); which error is returned if PK_OUT_OF_MEMORY and a later one apply.
+ * NULL with length 0; inline functions; the numbers that pk_chain_set_memory, pk_queue_begin and
+ * pk_restore give, which are C (tools/pk_numbers.c); which error is returned if PK_OUT_OF_MEMORY
+ * and a later one apply.
  */
 #ifndef PITSKHOMU_CHAIN_H
 #define PITSKHOMU_CHAIN_H
 #include <stddef.h>
 #include <stdint.h>
 #if defined(__GNUC__)
-#define PK_NONNULL __attribute__((nonnull)) /* each pointer */
-#define PK_CHECK __attribute__((nonnull, warn_unused_result))
+#define PK_NONNULL(...) __attribute__((nonnull(__VA_ARGS__))) /* pointers without a length */
+#define PK_RESULT __attribute__((warn_unused_result))
 #else
-#define PK_NONNULL
-#define PK_CHECK
+#define PK_NONNULL(...)
+#define PK_RESULT
 #endif
+#define PK_CHECK(...) PK_NONNULL(__VA_ARGS__) PK_RESULT
 #if defined(__GNUC__) && !defined(__clang__) && __GNUC__ >= 11
 #define PK_USES(...) __attribute__((access(__VA_ARGS__)))
 #else
@@ -108,7 +115,7 @@
 extern "C" {
 #endif
 /* ---------------------------------------------------------------- numbers */
-#define PK_VERSION 0x10000u      /* of this header, 1.0: the major number << 16 | the minor one */
+#define PK_VERSION 0x20000u      /* of this header, 2.0: the major number << 16 | the minor one */
 #define PK_REGIONS_MAX 64u       /* regions of the guest's memory */
 #define PK_QUEUES_MAX 64u        /* queues in a saved record */
 #define PK_LOAD_MAX 4096u        /* bytes of the longest load of a pop */
@@ -120,7 +127,7 @@ extern "C" {
 /* What a call returns, and what to do then. From 64 on the call changed no chain, queue or device,
  * and zeroed its results, unless its comment says otherwise. Comments list errors in the order of
  * checks; "the usual" are PK_WRONG_ORDER, if the chain has no memory set, or a table's place is
- * zeros, and then PK_BAD_ARGUMENT, if a field of the queue or device is invalid. */
+ * zeros, and then 96 to 103, if a field of the device or queue is invalid: the first of these. */
 enum pk_status {
     PK_DONE = 0, /* the next call, as enum pk_state says */
     /* 2 to 8 stop the queue: set DEVICE_NEEDS_RESET, and send a notification of a configuration
@@ -148,9 +155,10 @@ enum pk_status {
                              into the reply buffer from PK_HEADER on */
     PK_MISS = 39,         /* I/O addresses aren't mapped in the table: map them, and pop again. As
                              after PK_OUT_OF_MEMORY, the driver doesn't notify for the chain */
-    PK_BAD_ARGUMENT = 66, /* a number that the function doesn't allow, or a wrong length: mend it */
+    PK_BAD_ARGUMENT = 66, /* another number that the function doesn't allow, or a wrong length */
     PK_SHORT_BUFFER = 69, /* the buffer is too short: pass a longer one */
-    PK_LONG_REPLY = 71,   /* 2^32 bytes or more, or (pk_reply_bytes) more than the buffer: cut it */
+    PK_LONG_REPLY = 71,   /* a READ's data is longer than data_len, or bytes of your own are longer
+                             than the reply buffer: cut it */
     PK_WRONG_ORDER = 73,  /* this call doesn't come next for the chain: enum pk_state has the one */
     PK_OTHER_QUEUE = 74,  /* the chain is of another queue, or its queue was reset: abandon it. Or
                              another chain was popped or dropped since this pop began: drop it */
@@ -167,6 +175,22 @@ enum pk_status {
     PK_RECORD_TRUNCATED = 81, PK_RECORD_BAD_MAGIC = 82, PK_RECORD_BAD_VERSION = 83,
     PK_RECORD_BAD_COUNT = 84, PK_RECORD_BAD_RESERVED = 85, PK_RECORD_BAD_QUEUE = 86,
     PK_RECORD_BAD_OPTIONS = 87, PK_RECORD_OUT_OF_MEMORY = 89, PK_RECORD_MISMATCH = 90,
+    /* 96 to 110: a field of the device, a queue or a region is invalid. */
+    PK_BAD_DEVICE = 96,          /* page_size or limit: begin with PK_DEVICE, not with zeros */
+    PK_BAD_QUEUE_SIZE = 97,      /* size isn't a power of two up to 32768 */
+    PK_BAD_QUEUE_ALIGNMENT = 98, /* desc isn't a multiple of 16, avail of 2, or used of 4 */
+    PK_BAD_QUEUE_END = 99,       /* the descriptors or a ring end at 2^64 or later */
+    PK_BAD_MAX_IN_FLIGHT = 100,  /* max_in_flight is above size */
+    PK_BAD_EVENT_INDEX = 101,    /* event_index is above 1 */
+    PK_BAD_QUEUE_STATE = 102,    /* fields that are the library's were changed: pk_queue_begin */
+    PK_QUEUE_NOT_BEGUN = 103,    /* only of pops, and before 97 to 102: call pk_queue_begin first */
+    PK_EMPTY_REGION = 104,       /* len is 0. 104 to 108 are of the first invalid region */
+    PK_BAD_REGION_HOST = 105,    /* host isn't a multiple of 4096 */
+    PK_BAD_REGION_GUEST = 106,   /* guest isn't a multiple of 4096 */
+    PK_BAD_REGION_LEN = 107,     /* len isn't a multiple of 4096 */
+    PK_BAD_REGION_END = 108,     /* guest + len or host + len is above 2^64 */
+    PK_TOO_MANY_REGIONS = 109,   /* more than PK_REGIONS_MAX */
+    PK_REGIONS_OVERLAP = 110,    /* two have a guest address in common */
 };
 
 /* Faults of a descriptor chain (2.7.5), which is pushed without a reply. ROOM: the reply buffer. */
@@ -189,8 +213,9 @@ enum pk_request_fault {
  * have `unique`; all but INIT, DESTROY and BATCH_FORGET have `node`; all but INIT and DESTROY have
  * `uid`, `gid` and `pid`. With FUSE_ALLOW_IDMAP (Linux 6.12 and later; always agreed on) uid and
  * gid are 0xffffffff, except in calls that make a node. These also have `group`, a supplementary
- * group, if `has_group`, and `label_name` and `label`, if `has_label` (FUSE_SECURITY_CTX). Not
- * passed on: FATTR_LOCKOWNER, and the flags of COPY_FILE_RANGE. */
+ * group, if `has_group`, and `label_name` and `label`, if `has_label` (FUSE_SECURITY_CTX).
+ * Node 1 is the root, which the guest knows without a look-up. Not passed on: FATTR_LOCKOWNER, and
+ * the flags of COPY_FILE_RANGE. */
 enum pk_call_kind {
     PK_CALL_NONE = 0,         /* -> none: it is answered already (unknown opcodes), or never */
     PK_CALL_LOOKUP = 1,       /* name -> entry */
@@ -202,7 +227,8 @@ enum pk_call_kind {
     PK_CALL_MKNOD = 8,        /* name, mode, rdev, umask, group, label -> entry */
     PK_CALL_MKDIR = 9,        /* name, mode, umask, group, label -> entry */
     PK_CALL_UNLINK = 10, PK_CALL_RMDIR = 11, /* name -> done */
-    PK_CALL_RENAME = 12,      /* name in node becomes name2 in node2; flags (RENAME_) -> done */
+    PK_CALL_RENAME = 12,      /* also for RENAME2: name in node becomes name2 in node2; flags
+                                 (RENAME_) -> done */
     PK_CALL_LINK = 13,        /* node gets the name in the directory node2 -> entry */
     PK_CALL_OPEN = 14,        /* flags (O_ of Linux x86), kill_priv -> open */
     PK_CALL_READ = 15,        /* handle, offset, data_len, size, flags, owner, has_owner -> data */
@@ -226,7 +252,6 @@ enum pk_call_kind {
     PK_CALL_DESTROY = 38,     /* set the device's options to 0 -> done. No reply is sent */
     PK_CALL_BATCH_FORGET = 42, /* value: count pairs, read by pk_pair -> none */
     PK_CALL_FALLOCATE = 43,   /* handle, mode, offset, size -> done */
-    PK_CALL_RENAME2 = 45,     /* never: it is PK_CALL_RENAME with flags */
     PK_CALL_LSEEK = 46,       /* handle, offset, flags: whence -> lseek */
     PK_CALL_COPY_FILE_RANGE = 47, /* handle, offset, size; to node2, handle2, offset2 -> write */
     PK_CALL_SYNCFS = 50,      /* -> done */
@@ -246,7 +271,7 @@ uint32_t pk_version(void); /* the library's PK_VERSION: pk_is_compatible compare
 const char *pk_build(void);
 /* Returns 1 if a name is one component of a path (POSIX.1-2017, 3.170 and 4.13), else 0: "", ".",
  * "..", or with a slash or a zero byte. Test each name of the guest before the host uses it. */
-uint8_t pk_is_name(const uint8_t *name, size_t name_len) PK_CHECK;
+uint8_t pk_is_name(const uint8_t *name, size_t name_len) PK_RESULT;
 
 /* ---------------------------------------------------------------- device and queues */
 struct pk_device { /* the state that all queues share */
@@ -274,8 +299,8 @@ struct pk_queue {
 /* Resets a queue, also before its first pop: no chain of it is in flight, and it isn't stopped.
  * pk_restore does the same. `next_avail` is the number of SET_VRING_BASE, or 0. Pushes of earlier
  * chains are refused. Before DRIVER_OK neither pop nor store (2.1.2); then enable notifications: an
- * earlier device may have left them disabled. Errors: PK_BAD_ARGUMENT (your fields are invalid). */
-uint32_t pk_queue_begin(struct pk_queue *queue, uint16_t next_avail) PK_CHECK;
+ * earlier device may have left them disabled. Errors: 97 to 101 (your fields are invalid). */
+uint32_t pk_queue_begin(struct pk_queue *queue, uint16_t next_avail) PK_CHECK(1);
 
 /* A region of the guest's memory: its guest address, its length in bytes, and its host address, to
  * which the library only adds. All three numbers are multiples of 4096. */
@@ -296,29 +321,30 @@ enum pk_state {
     PK_STATE_REPLIED = 6, /* pk_push: its reply is known, or it gets none */
     PK_STATE_PUSHING = 7, /* pk_pushed */
 };
-uint32_t pk_chain_state(const struct pk_chain *chain) PK_CHECK; /* enum pk_state */
+uint32_t pk_chain_state(const struct pk_chain *chain) PK_CHECK(1); /* enum pk_state */
 
 /* Copies the regions and the device's limit for the chain's next pops: at first, and for each chain
  * after each change of the guest's memory. The regions, up to PK_REGIONS_MAX in any order, aren't
  * empty, don't overlap and end at 2^64 at most.
- * Errors: PK_BAD_ARGUMENT, PK_OUT_OF_MEMORY, PK_CHAIN_IN_FLIGHT (also while a pop is under way). */
+ * Errors: PK_BAD_DEVICE; 104 to 108; PK_TOO_MANY_REGIONS; PK_REGIONS_OVERLAP; PK_OUT_OF_MEMORY;
+ * PK_CHAIN_IN_FLIGHT (also while a pop is under way). */
 uint32_t pk_chain_set_memory(struct pk_chain *chain, const struct pk_device *device,
                              const struct pk_region *regions, size_t region_count)
-    PK_CHECK PK_READS(3, 4);
+    PK_CHECK(1, 2) PK_READS(3, 4);
 
 /* Frees the handle's memory, and zeroes it. Its chain is abandoned (pk_abandon). */
-void pk_chain_free(struct pk_chain *chain) PK_NONNULL;
+void pk_chain_free(struct pk_chain *chain) PK_NONNULL(1);
 
 /* Sets the ticket of the chain's next pop. Each pop takes the next number, modulo 2^32. A new
  * handle begins at a number of its own: of the first n handles of a process, up to 10,000, no two
  * have a ticket in common in the first 2^32 / (3 * n) chains of each. So a handle refuses answers
  * to others' chains, and to those of a handle that was freed.
  * Errors: the usual; PK_CHAIN_IN_FLIGHT (or a pop is under way). */
-uint32_t pk_chain_set_ticket(struct pk_chain *chain, uint32_t first) PK_CHECK;
+uint32_t pk_chain_set_ticket(struct pk_chain *chain, uint32_t first) PK_CHECK(1);
 
 /* The result of pk_pop: with PK_LOAD a load, with PK_DONE a chain. After an error it is the load
  * that the pop still needs, if there is one and the queue's fields are valid, else zeros. */
-struct pk_pop {
+struct pk_pop_result {
     uintptr_t load_at;    /* host address */
     size_t load_len;      /* bytes, 1 to PK_LOAD_MAX */
     uint64_t request_len; /* bytes of the request; 0 with a fault */
@@ -343,7 +369,8 @@ struct pk_pop {
  * the load's); PK_OTHER_QUEUE; PK_CHAIN_IN_FLIGHT; then, in no order, PK_OUT_OF_MEMORY, 1 to 8,
  * PK_NOT_MAPPED. */
 uint32_t pk_pop(struct pk_chain *chain, struct pk_queue *queue, const uint8_t *loaded,
-                size_t loaded_len, struct pk_pop *pop) PK_CHECK PK_READS(3, 4) PK_FILLS(5);
+                size_t loaded_len, struct pk_pop_result *pop)
+    PK_CHECK(1, 2, 5) PK_READS(3, 4) PK_FILLS(5);
 
 /* A load that was made ahead of a pop: its host address, and how many bytes it has. */
 struct pk_load_ahead { uintptr_t at; size_t len; };
@@ -360,18 +387,18 @@ struct pk_load_ahead { uintptr_t at; size_t len; };
  * PK_CHAIN_IN_FLIGHT; 1 to 8, PK_NOT_MAPPED. */
 uint32_t pk_pop_ahead(struct pk_chain *chain, struct pk_queue *queue,
                       const struct pk_load_ahead *ahead, size_t ahead_count, const uint8_t *bytes,
-                      size_t bytes_len, struct pk_pop *pop)
-    PK_CHECK PK_READS(3, 4) PK_READS(5, 6) PK_FILLS(7);
+                      size_t bytes_len, struct pk_pop_result *pop)
+    PK_CHECK(1, 2, 7) PK_READS(3, 4) PK_READS(5, 6) PK_FILLS(7);
 
 /* Undoes a pop whose chain wasn't decoded: the queue's next pop returns the chain again. Or ends a
  * pop that is under way in the handle; then `queue` may be another one.
- * Errors: PK_BAD_ARGUMENT (the queue); PK_WRONG_ORDER (it was decoded, or has a fault);
- * PK_OTHER_QUEUE; PK_WRONG_ORDER (another chain was popped later: drop that one first). */
-uint32_t pk_drop(struct pk_chain *chain, struct pk_queue *queue) PK_NONNULL;
+ * Errors: 97 to 102 (the queue); PK_WRONG_ORDER (it was decoded, or has a fault); PK_OTHER_QUEUE;
+ * PK_WRONG_ORDER (another chain was popped later: drop that one first). */
+uint32_t pk_drop(struct pk_chain *chain, struct pk_queue *queue) PK_NONNULL(1, 2);
 
 /* Frees the handle for another pop, in any state. Its chain is never pushed: the queue counts it as
  * in flight until a reset. Between pk_push and pk_pushed, no other chain is pushed until then. */
-void pk_abandon(struct pk_chain *chain) PK_NONNULL;
+void pk_abandon(struct pk_chain *chain) PK_NONNULL(1);
 
 /* A piece of memory, laid out as struct iovec: cast an array of it for preadv and the like. */
 struct pk_window { uintptr_t at; size_t len; };
@@ -384,11 +411,12 @@ struct pk_range { uint64_t guest, len; };
  * cover fewer than `len` bytes, call again from there. */
 size_t pk_request_windows(struct pk_chain *chain, uint64_t from, uint64_t len,
                           struct pk_window *windows, size_t window_count)
-    PK_NONNULL PK_WRITES(4, 5);
+    PK_NONNULL(1) PK_WRITES(4, 5);
 size_t pk_reply_windows(struct pk_chain *chain, uint64_t from, uint64_t len,
-                        struct pk_window *windows, size_t window_count) PK_NONNULL PK_WRITES(4, 5);
+                        struct pk_window *windows, size_t window_count)
+    PK_NONNULL(1) PK_WRITES(4, 5);
 size_t pk_reply_ranges(struct pk_chain *chain, uint64_t from, uint64_t len, struct pk_range *ranges,
-                       size_t range_count) PK_NONNULL PK_WRITES(4, 5);
+                       size_t range_count) PK_NONNULL(1) PK_WRITES(4, 5);
 
 /* ---------------------------------------------------------------- an IOMMU's table */
 /* A place for a table that maps I/O addresses to guest physical ones. One table serves all chains,
@@ -403,9 +431,9 @@ enum pk_access { /* VHOST_ACCESS_ of linux/vhost_types.h */
     PK_ACCESS_NONE = 0, PK_ACCESS_READ = 1, PK_ACCESS_WRITE = 2, PK_ACCESS_READ_WRITE = 3 };
 
 /* Puts an empty table into the place. Errors: PK_OUT_OF_MEMORY (only if the place is zeros). */
-uint32_t pk_iotlb_new(struct pk_iotlb *iotlb) PK_CHECK;
+uint32_t pk_iotlb_new(struct pk_iotlb *iotlb) PK_CHECK(1);
 /* Frees the place with its table, and zeroes it. */
-void pk_iotlb_free(struct pk_iotlb *iotlb) PK_NONNULL;
+void pk_iotlb_free(struct pk_iotlb *iotlb) PK_NONNULL(1);
 
 /* Maps `len` I/O addresses; earlier mappings of them end. With PK_ACCESS_NONE they are refused: a
  * pop that needs them has a refusal or a fault, and no miss. Unmap them after that pop. The last
@@ -413,27 +441,27 @@ void pk_iotlb_free(struct pk_iotlb *iotlb) PK_NONNULL;
  * Errors: the usual; PK_BAD_ARGUMENT (not an access); PK_WRONG_ORDER (the table is lent);
  * PK_BAD_ARGUMENT (not multiples of 4096; `len` is 0; an end above 2^64 - 1); PK_OUT_OF_MEMORY. */
 uint32_t pk_iotlb_map(struct pk_iotlb *iotlb, uint64_t iova, uint64_t len, uint64_t guest,
-                      uint32_t access) PK_CHECK;
+                      uint32_t access) PK_CHECK(1);
 /* Removes the mappings of `len` I/O addresses, which end at 2^64 at most.
  * Errors: PK_WRONG_ORDER (no table is here); PK_BAD_ARGUMENT (not multiples of 4096; `len` is 0; an
  * end above 2^64); PK_OUT_OF_MEMORY (only if a mapping continues after them). */
-uint32_t pk_iotlb_unmap(struct pk_iotlb *iotlb, uint64_t iova, uint64_t len) PK_CHECK;
+uint32_t pk_iotlb_unmap(struct pk_iotlb *iotlb, uint64_t iova, uint64_t len) PK_CHECK(1);
 /* Exchanges the tables of chain and place; each may have none. It allocates nothing.
  * Errors: the usual; PK_CHAIN_IN_FLIGHT (a pop is under way: one table holds for all of it). */
-uint32_t pk_chain_exchange_iotlb(struct pk_chain *chain, struct pk_iotlb *iotlb) PK_CHECK;
+uint32_t pk_chain_exchange_iotlb(struct pk_chain *chain, struct pk_iotlb *iotlb) PK_CHECK(1, 2);
 
 /* I/O addresses that the table doesn't map, and the access that is needed (enum pk_access). */
 struct pk_miss { uint64_t at, len; uint32_t access; };
-/* After PK_MISS, before you take the table back: the first I/O addresses that the buffer of
+/* After PK_MISS, before you take the table back: finds the first I/O addresses that the buffer of
  * descriptor `index` lacks, at or after address `from`. Ask for each index from 0 on: first with
  * `from` 0, then with the end of the miss.
  * PK_MISS: filled. PK_DONE: nothing is missing from there on. PK_IDLE: no such descriptor was read.
  * Errors: the usual. */
-uint32_t pk_miss(struct pk_chain *chain, size_t index, uint64_t from, struct pk_miss *miss)
-    PK_CHECK PK_FILLS(4);
+uint32_t pk_find_miss(struct pk_chain *chain, size_t index, uint64_t from, struct pk_miss *miss)
+    PK_CHECK(1, 4) PK_FILLS(4);
 
 /* Returns 1 if the buffers of the chain in flight use one of `len` I/O addresses, else 0. */
-uint8_t pk_uses(struct pk_chain *chain, uint64_t iova, uint64_t len) PK_CHECK;
+uint8_t pk_uses(struct pk_chain *chain, uint64_t iova, uint64_t len) PK_CHECK(1);
 
 /* ---------------------------------------------------------------- decode */
 /* Bytes of the request, by their offset. A name has no zero byte, and one follows it. */
@@ -456,7 +484,6 @@ struct pk_call {
     uint32_t kind;   /* enum pk_call_kind */
     uint32_t answer; /* enum pk_answer_kind */
     uint32_t opcode; /* the guest's, also without a call */
-    uint32_t error;  /* always 0 */
     uint32_t fault;  /* enum pk_request_fault, or 0 */
     uint64_t unique; /* the guest's number of the request */
     uint32_t uid, gid, pid;
@@ -483,7 +510,8 @@ struct pk_call {
  * Errors: the usual; PK_WRONG_ORDER (no chain, a faulty or a decoded one); PK_BAD_ARGUMENT (too
  * many bytes). */
 uint32_t pk_decode(struct pk_chain *chain, const struct pk_device *device, const uint8_t *request,
-                   size_t request_len, struct pk_call *call) PK_CHECK PK_READS(3, 4) PK_FILLS(5);
+                   size_t request_len, struct pk_call *call)
+    PK_CHECK(1, 2, 5) PK_READS(3, 4) PK_FILLS(5);
 
 /* ---------------------------------------------------------------- reply */
 /* struct fuse_entry_out. Node 0: the name is known not to exist. */
@@ -504,30 +532,30 @@ struct pk_statfs { /* struct fuse_kstatfs */
  * call is unanswered); PK_OTHER_CALL; PK_OTHER_KIND; the function's own. */
 
 /* Any call: an errno of Linux, 1 to 4095, or 0 if `answer` is DONE. It may return PK_ENTRIES. */
-uint32_t pk_reply_err(struct pk_chain *chain, uint32_t ticket, uint32_t error) PK_CHECK;
+uint32_t pk_reply_err(struct pk_chain *chain, uint32_t ticket, uint32_t error) PK_CHECK(1);
 /* LOOKUP, SYMLINK, MKNOD, MKDIR, LINK: the node's look-up count grows by 1. */
 uint32_t pk_reply_entry(struct pk_chain *chain, uint32_t ticket, const struct pk_entry *entry)
-    PK_CHECK;
+    PK_CHECK(1, 3);
 /* CREATE: an entry, and an open file. */
 uint32_t pk_reply_create(struct pk_chain *chain, uint32_t ticket, const struct pk_entry *entry,
-                         uint64_t handle, uint32_t open_flags) PK_CHECK;
+                         uint64_t handle, uint32_t open_flags) PK_CHECK(1, 3);
 /* GETATTR, SETATTR: the guest may keep the attributes for secs and nanos. */
 uint32_t pk_reply_attr(struct pk_chain *chain, uint32_t ticket, const struct pk_attr *attr,
-                       uint64_t secs, uint32_t nanos) PK_CHECK;
+                       uint64_t secs, uint32_t nanos) PK_CHECK(1, 3);
 /* OPEN, OPENDIR: `handle` is your number, which the guest passes to READ etc. open_flags: FOPEN_ */
 uint32_t pk_reply_open(struct pk_chain *chain, uint32_t ticket, uint64_t handle,
-                       uint32_t open_flags) PK_CHECK;
+                       uint32_t open_flags) PK_CHECK(1);
 /* READ, READLINK, GETXATTR, LISTXATTR: `len` bytes of data in the reply buffer from PK_HEADER on
- * (READ: data_len of the call at most, else PK_OTHER_KIND). Put them there (pk_reply_windows)
- * before the used index is stored. Errors: also PK_LONG_REPLY. */
-uint32_t pk_reply_data(struct pk_chain *chain, uint32_t ticket, uint64_t len) PK_CHECK;
+ * (READ: at most data_len of the call, else PK_LONG_REPLY). Put them there (pk_reply_windows)
+ * before the used index is stored. */
+uint32_t pk_reply_data(struct pk_chain *chain, uint32_t ticket, uint64_t len) PK_CHECK(1);
 /* GETXATTR and LISTXATTR with size 0: the length of the value or list, in bytes. WRITE and
  * COPY_FILE_RANGE: the bytes that were written. STATFS. LSEEK: the offset, in bytes. */
-uint32_t pk_reply_xattr(struct pk_chain *chain, uint32_t ticket, uint32_t len) PK_CHECK;
-uint32_t pk_reply_write(struct pk_chain *chain, uint32_t ticket, uint32_t count) PK_CHECK;
+uint32_t pk_reply_xattr(struct pk_chain *chain, uint32_t ticket, uint32_t len) PK_CHECK(1);
+uint32_t pk_reply_write(struct pk_chain *chain, uint32_t ticket, uint32_t count) PK_CHECK(1);
 uint32_t pk_reply_statfs(struct pk_chain *chain, uint32_t ticket, const struct pk_statfs *statfs)
-    PK_CHECK;
-uint32_t pk_reply_lseek(struct pk_chain *chain, uint32_t ticket, uint64_t offset) PK_CHECK;
+    PK_CHECK(1, 3);
+uint32_t pk_reply_lseek(struct pk_chain *chain, uint32_t ticket, uint64_t offset) PK_CHECK(1);
 /* INIT: `wanted` are options (FUSE_ bits) to agree on, if the guest supports them, besides the
  * server's own: ASYNC_READ, ATOMIC_O_TRUNC, BIG_WRITES, HAS_IOCTL_DIR, AUTO_INVAL_DATA, ASYNC_DIO,
  * PARALLEL_DIROPS, MAX_PAGES, SUBMOUNTS, INIT_EXT, CREATE_SUPP_GROUP, ALLOW_IDMAP. So a guest sends
@@ -535,7 +563,7 @@ uint32_t pk_reply_lseek(struct pk_chain *chain, uint32_t ticket, uint64_t offset
  * fuse_init_out is virtiofsd's: 7.38, the guest's max_readahead, max_background 65535, max_write
  * 0x100000, congestion_threshold 49149, time_gran 1, max_pages 0xfffff / page_size + 1. */
 uint32_t pk_reply_init(struct pk_chain *chain, uint32_t ticket, struct pk_device *device,
-                       uint64_t wanted) PK_CHECK;
+                       uint64_t wanted) PK_CHECK(1, 3);
 
 /* READDIR: appends an entry to `list`, a buffer of yours of `list_len` bytes, the same one for all
  * entries of the reply. The library counts the bytes that they take (pk_direntry_len), data_len at
@@ -547,7 +575,7 @@ uint32_t pk_reply_init(struct pk_chain *chain, uint32_t ticket, struct pk_device
  * buffer ends before the entry: reply with the list, if it has entries). */
 uint32_t pk_add_direntry(struct pk_chain *chain, uint32_t ticket, uint8_t *list, size_t list_len,
                          const uint8_t *name, size_t name_len, uint64_t ino, uint64_t next_offset,
-                         uint32_t type) PK_CHECK PK_READS(5, 6);
+                         uint32_t type) PK_CHECK(1) PK_READS(5, 6);
 
 /* READDIRPLUS: the same with an entry, whose node the guest then holds once more. "." and ".." have
  * node 0. Type and ino are the attributes'. After any status but PK_DONE undo the look-up, of
@@ -555,12 +583,12 @@ uint32_t pk_add_direntry(struct pk_chain *chain, uint32_t ticket, uint8_t *list,
 uint32_t pk_add_direntry_plus(struct pk_chain *chain, uint32_t ticket, uint8_t *list,
                               size_t list_len, const uint8_t *name, size_t name_len,
                               const struct pk_entry *entry, uint64_t next_offset)
-    PK_CHECK PK_READS(5, 6);
+    PK_CHECK(1, 7) PK_READS(5, 6);
 
 /* READDIR, READDIRPLUS: replies with the entries so far; a reply without any is the end of the
  * directory. Copy the first `*len` bytes of the list into the reply buffer from PK_HEADER on. */
 uint32_t pk_reply_entries(struct pk_chain *chain, uint32_t ticket, uint64_t *len)
-    PK_CHECK PK_FILLS(3);
+    PK_CHECK(1, 3) PK_FILLS(3);
 
 /* Replies with `len` bytes of your own (with struct fuse_out_header), in place of a call's answer,
  * or of pk_decode; 0 is no reply. Put them into the reply buffer, from 0 on, before the used index
@@ -569,7 +597,7 @@ uint32_t pk_reply_entries(struct pk_chain *chain, uint32_t ticket, uint64_t *len
  * and set device->options after INIT. pk_push returns no front, and `len` for the used element.
  * Errors: PK_WRONG_ORDER (no chain, a faulty one, or one with a reply); PK_OTHER_CALL;
  * PK_LONG_REPLY. */
-uint32_t pk_reply_bytes(struct pk_chain *chain, uint32_t ticket, uint64_t len) PK_CHECK;
+uint32_t pk_reply_bytes(struct pk_chain *chain, uint32_t ticket, uint64_t len) PK_CHECK(1);
 
 /* ---------------------------------------------------------------- push */
 /* The stores of a push, then its load, of little-endian numbers (rule 4; VIRTIO 1.2, 2.7.8, 2.7.7).
@@ -591,13 +619,13 @@ struct pk_stores {
  * PK_OTHER_QUEUE; PK_PUSHING; PK_OTHER_TABLE (the chain is still in flight); PK_SHORT_BUFFER
  * (PK_FRONT_MAX bytes are enough); PK_NOT_MAPPED (the push is under way then: reset the queue). */
 uint32_t pk_push(struct pk_chain *chain, struct pk_queue *queue, uint8_t *front, size_t front_len,
-                 struct pk_stores *stores) PK_CHECK PK_WRITES(3, 4) PK_FILLS(5);
+                 struct pk_stores *stores) PK_CHECK(1, 2, 5) PK_WRITES(3, 4) PK_FILLS(5);
 
 /* Ends the push once the stores are made: the handle is free. `seen` is the number that you loaded
  * at seen_at. `*notify` is 1 if the driver is to be notified, else 0.
  * Errors: the usual; PK_WRONG_ORDER (no push is under way); PK_OTHER_QUEUE. */
 uint32_t pk_pushed(struct pk_chain *chain, struct pk_queue *queue, uint16_t seen, uint8_t *notify)
-    PK_CHECK PK_FILLS(4);
+    PK_CHECK(1, 2, 4) PK_FILLS(4);
 
 /* ---------------------------------------------------------------- notifications of the driver */
 /* A store of 2 bytes at a host address, or none (`len` 0). */
@@ -607,29 +635,29 @@ struct pk_store { uintptr_t at; uint16_t value; uint8_t len; };
  * avail_event at used + 4 + 8 * size. With event_index nothing is stored to disable them. It uses
  * the chain's regions and table. Errors: the usual; PK_NOT_MAPPED (map the bytes, call again). */
 uint32_t pk_set_notification(struct pk_chain *chain, const struct pk_queue *queue, uint32_t enabled,
-                             struct pk_store *store) PK_CHECK PK_FILLS(4);
+                             struct pk_store *store) PK_CHECK(1, 2, 4) PK_FILLS(4);
 
 /* ---------------------------------------------------------------- save and restore */
 /* Writes the record of device and queues to the front of `buffer`: addresses, sizes, next_avail,
  * stopped or not, options, page size and limit. `*len` is its length, also with PK_SHORT_BUFFER,
  * and 0 after other errors.
- * Errors: PK_BAD_ARGUMENT (the device, unknown options, not 1 to PK_QUEUES_MAX queues); of the
- * first queue that has one, PK_BAD_ARGUMENT or PK_CHAIN_IN_FLIGHT; PK_OUT_OF_MEMORY;
+ * Errors: PK_BAD_DEVICE; PK_BAD_ARGUMENT (unknown options, or not 1 to PK_QUEUES_MAX queues); of
+ * the first queue that has one, 97 to 102 or PK_CHAIN_IN_FLIGHT; PK_OUT_OF_MEMORY;
  * PK_SHORT_BUFFER. */
 uint32_t pk_save(const struct pk_device *device, const struct pk_queue *queues, size_t queue_count,
                  uint8_t *buffer, size_t buffer_len, size_t *len)
-    PK_CHECK PK_READS(2, 3) PK_WRITES(4, 5) PK_FILLS(6);
+    PK_CHECK(1, 6) PK_READS(2, 3) PK_WRITES(4, 5) PK_FILLS(6);
 
 /* Reads a record at the front of `saved` into device->options and the first `*count` queues, and
  * resets these. Before the call set page size and limit, which must be the record's, and of each
  * queue event_index and max_in_flight, which the record doesn't have. After an error device and
  * queues are unchanged.
- * Errors: PK_BAD_ARGUMENT (the device); 81 to 90, in the order of the record's parts;
- * PK_SHORT_BUFFER (too few queues: `*count` is how many the record has); PK_BAD_ARGUMENT (a queue's
- * event_index is above 1, or its max_in_flight above the record's size of it). */
+ * Errors: PK_BAD_DEVICE; 81 to 90, in the order of the record's parts; PK_SHORT_BUFFER (too few
+ * queues: `*count` is how many the record has); PK_BAD_MAX_IN_FLIGHT or PK_BAD_EVENT_INDEX (of the
+ * first queue that has one: max_in_flight is above its size in the record). */
 uint32_t pk_restore(struct pk_device *device, struct pk_queue *queues, size_t queue_count,
                     const uint8_t *saved, size_t saved_len, size_t *count)
-    PK_CHECK PK_WRITES(2, 3) PK_READS(4, 5) PK_FILLS(6);
+    PK_CHECK(1, 6) PK_WRITES(2, 3) PK_READS(4, 5) PK_FILLS(6);
 
 #ifdef __cplusplus
 }

@@ -146,7 +146,7 @@ static inline void pk_ring_guess(const struct pk_queue *queue, struct pk_ring *r
 /* Pops the next available chain, with its loads: pk_pop_ahead, and pk_pop for what is left. Returns
  * any status of pk_pop but PK_LOAD. The first pop after PK_IDLE loads the available index again. */
 static inline uint32_t pk_pop_ring(struct pk_chain *chain, struct pk_queue *queue,
-                                   struct pk_ring *ring, struct pk_pop *pop) {
+                                   struct pk_ring *ring, struct pk_pop_result *pop) {
     struct pk_ring_loads loads;
     pk_ring_guess(queue, ring, &loads);
     uint32_t status =
@@ -207,7 +207,7 @@ static inline uint32_t pk_push_ring(struct pk_chain *chain, struct pk_queue *que
     __atomic_store_n((uint32_t *)stores.len_at, stores.len, __ATOMIC_RELAXED);
     __atomic_store_n((uint16_t *)stores.index_at, stores.index, __ATOMIC_RELEASE);
     if (mark) {
-        pk_ring_reply(chain, NULL, stores.len, mark, log);
+        pk_ring_reply(chain, (const uint8_t *)0, stores.len, mark, log);
         mark(log, stores.id_at, 4);
         mark(log, stores.len_at, 4);
         mark(log, stores.index_at, 2);

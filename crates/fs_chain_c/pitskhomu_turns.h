@@ -1,4 +1,4 @@
-/* pitskhomu_turns.h: the loop of a queue's threads, decided by the library. Until version 1.2 of
+/* pitskhomu_turns.h: the loop of a queue's threads, decided by the library. Until version 2.2 of
  * the library this header may change with each minor version: build with the library's own.
  *
  * A queue has one lock, and one `struct pk_turns` beside it under that lock. A thread that holds
@@ -54,51 +54,51 @@ enum pk_action {
 };
 
 /* A queue that no thread serves yet. */
-void pk_turns_begin(struct pk_turns *turns, uint32_t event_index) PK_NONNULL;
+void pk_turns_begin(struct pk_turns *turns, uint32_t event_index) PK_NONNULL(1);
 /* The queue was reset, by a thread that holds the lock, while others may sleep. Signal the threads'
  * event then. Returns 1, or 0 if a thread has an action to perform: then nothing changed. */
-uint32_t pk_turns_reset(struct pk_turns *turns, uint32_t event_index) PK_CHECK;
+uint32_t pk_turns_reset(struct pk_turns *turns, uint32_t event_index) PK_CHECK(1);
 
 /* The thread slept, and has the lock: an event woke it, or nothing did. `answers_wait`, here and in
  * pk_turn_back: not 0 if a chain may wait whose answer came later. */
-uint32_t pk_turn_woken(struct pk_turns *turns, uint32_t answers_wait) PK_CHECK;
+uint32_t pk_turn_woken(struct pk_turns *turns, uint32_t answers_wait) PK_CHECK(1);
 /* The thread didn't sleep, and has the lock: it has begun, or stepped aside, or has pushed, dropped
  * or abandoned its chain, or left it to wait for its answer. `notify`: as pk_pushed returned it. */
-uint32_t pk_turn_back(struct pk_turns *turns, uint32_t notify, uint32_t answers_wait) PK_CHECK;
+uint32_t pk_turn_back(struct pk_turns *turns, uint32_t notify, uint32_t answers_wait) PK_CHECK(1);
 /* The thread took up a chain whose answer came later. `another`: another such chain may wait. The
  * last three are as in pk_turn_popped. */
 uint32_t pk_turn_resumed(struct pk_turns *turns, uint32_t another, uint16_t next_avail,
-                         uint32_t is_full, uint32_t another_comes) PK_CHECK;
+                         uint32_t is_full, uint32_t another_comes) PK_CHECK(1);
 /* No such chain waits. */
-uint32_t pk_turn_none_resumed(struct pk_turns *turns) PK_CHECK;
+uint32_t pk_turn_none_resumed(struct pk_turns *turns) PK_CHECK(1);
 
 /* The thread popped a chain (PK_DONE), also one with a fault. `next_avail`: the queue's.
  * `is_full`: `max_in_flight` are in flight. `another_comes`: another thread waits for the lock, and
  * will call pk_turn_back; 0 if you don't know. */
 uint32_t pk_turn_popped(struct pk_turns *turns, uint16_t next_avail, uint32_t is_full,
-                        uint32_t another_comes) PK_CHECK;
+                        uint32_t another_comes) PK_CHECK(1);
 /* No chain is available (PK_IDLE): the pop loaded the index. `polls`: the thread looks again soon,
  * without sleeping. */
-uint32_t pk_turn_idle(struct pk_turns *turns, uint32_t polls, uint16_t next_avail) PK_CHECK;
+uint32_t pk_turn_idle(struct pk_turns *turns, uint32_t polls, uint16_t next_avail) PK_CHECK(1);
 /* `max_in_flight` are in flight (PK_CHAIN_IN_FLIGHT). */
-uint32_t pk_turn_full(struct pk_turns *turns) PK_CHECK;
+uint32_t pk_turn_full(struct pk_turns *turns) PK_CHECK(1);
 /* No chain is popped for now, as for a stop: signal the threads' event when one may be again. */
-uint32_t pk_turn_paused(struct pk_turns *turns) PK_CHECK;
+uint32_t pk_turn_paused(struct pk_turns *turns) PK_CHECK(1);
 /* An allocation failed, or the IOMMU hasn't answered (PK_OUT_OF_MEMORY, PK_MISS). */
-uint32_t pk_turn_later(struct pk_turns *turns) PK_CHECK;
+uint32_t pk_turn_later(struct pk_turns *turns) PK_CHECK(1);
 /* The queue is refused, or the thread is to end. */
-uint32_t pk_turn_refused(struct pk_turns *turns) PK_CHECK;
+uint32_t pk_turn_refused(struct pk_turns *turns) PK_CHECK(1);
 
 /* Notifications are enabled for `next_avail`: the store was made, and then a full barrier. */
-uint32_t pk_turn_armed(struct pk_turns *turns, uint16_t next_avail) PK_CHECK;
+uint32_t pk_turn_armed(struct pk_turns *turns, uint16_t next_avail) PK_CHECK(1);
 /* They can't be, and no store was made. */
-uint32_t pk_turn_not_armed(struct pk_turns *turns) PK_CHECK;
+uint32_t pk_turn_not_armed(struct pk_turns *turns) PK_CHECK(1);
 /* The available index, or the one that was loaded last, isn't `next_avail`; or it is, as it was
  * loaded for this. */
-uint32_t pk_turn_more(struct pk_turns *turns) PK_CHECK;
-uint32_t pk_turn_no_more(struct pk_turns *turns) PK_CHECK;
+uint32_t pk_turn_more(struct pk_turns *turns) PK_CHECK(1);
+uint32_t pk_turn_no_more(struct pk_turns *turns) PK_CHECK(1);
 /* Notifications are disabled. */
-uint32_t pk_turn_muted(struct pk_turns *turns) PK_CHECK;
+uint32_t pk_turn_muted(struct pk_turns *turns) PK_CHECK(1);
 
 #ifdef __cplusplus
 }

@@ -37,11 +37,11 @@ static void load_offered(void *to, const struct pk_queue *queue, struct offered 
 }
 
 uint32_t take_chain(struct pk_chain *chain, struct pk_queue *queue, struct offered *offered,
-                    struct pk_pop *pop) {
+                    struct pk_pop_result *pop) {
     uint8_t bytes[PK_LOAD_MAX];
     uint32_t status;
     bool is_first = true;
-    *pop = (struct pk_pop){0};
+    *pop = (struct pk_pop_result){0};
     while ((status = pk_pop(chain, queue, bytes, pop->load_len, pop)) == PK_LOAD) {
         if (is_first)
             load_offered(bytes, queue, offered, pop->load_at);
@@ -73,7 +73,7 @@ void scatter(struct pk_chain *chain, uint64_t from, const void *bytes, uint64_t 
         }
 }
 
-size_t load_front(struct pk_chain *chain, const struct pk_pop *pop, uint8_t *request) {
+size_t load_front(struct pk_chain *chain, const struct pk_pop_result *pop, uint8_t *request) {
     size_t len = pop->request_len < PK_FIRST ? (size_t)pop->request_len : PK_FIRST;
     gather(chain, 0, request, len);
     return len;

@@ -33,7 +33,7 @@ struct offered {
  * pops of the queue by this function, with the same `offered`. Zero it when the queue is restored,
  * or lies in other memory. */
 uint32_t take_chain(struct pk_chain *chain, struct pk_queue *queue, struct offered *offered,
-                    struct pk_pop *pop);
+                    struct pk_pop_result *pop);
 
 /* Copies `len` bytes out of the request, from its byte `from` on. */
 void gather(struct pk_chain *chain, uint64_t from, void *to, uint64_t len);
@@ -50,7 +50,7 @@ void put_data(struct pk_chain *chain, uint64_t from, const void *bytes, uint64_t
               const struct marker *marker);
 
 /* Loads the request's first bytes, at most PK_FIRST, and returns their number. */
-size_t load_front(struct pk_chain *chain, const struct pk_pop *pop, uint8_t *request);
+size_t load_front(struct pk_chain *chain, const struct pk_pop_result *pop, uint8_t *request);
 
 /* Decodes the request, of which `have` bytes were loaded, and loads the others that it needs, each
  * once. `request` has PK_REQUEST_MAX bytes. Returns PK_SHORT_BUFFER for a longer request, which a

@@ -20,7 +20,7 @@ struct worker {
     struct pk_chain chain;
     pthread_t thread;
     uint8_t *request;
-    struct pk_pop pop; /* its chain, */
+    struct pk_pop_result pop; /* its chain, */
     uint32_t status;   /* and what came of it: PK_DONE, or an error */
     bool has_chain;
     bool is_later; /* an allocation failed: it pops again in a moment */

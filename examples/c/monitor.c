@@ -245,7 +245,7 @@ static uint32_t answer(const struct pk_call *call) {
 
 /* A FUSE server of this VMM's own, for an opcode that the library doesn't serve: it replies with
  * the request's bytes in capitals, behind a header (struct fuse_out_header). */
-static uint32_t reply_capitals(const struct pk_pop *pop, const struct fuse_in_header *in,
+static uint32_t reply_capitals(const struct pk_pop_result *pop, const struct fuse_in_header *in,
                                uint64_t have) {
     uint64_t len = pop->request_len - sizeof *in;
     struct fuse_out_header out = {.len = (uint32_t)(sizeof out + len), .unique = in->unique};
@@ -259,7 +259,7 @@ static uint32_t reply_capitals(const struct pk_pop *pop, const struct fuse_in_he
 }
 
 /* PK_DONE: the chain can be pushed. Each byte of the request is loaded once. */
-static uint32_t serve_request(const struct pk_pop *pop) {
+static uint32_t serve_request(const struct pk_pop_result *pop) {
     size_t have = load_front(&chain, pop, request);
     struct fuse_in_header in = {0};
     struct pk_call call;
@@ -277,7 +277,7 @@ static uint32_t serve_request(const struct pk_pop *pop) {
  * later. 1 to 8: the queue is stopped, so set DEVICE_NEEDS_RESET. `notify`: interrupt the
  * driver. */
 static uint32_t serve(bool *notify) {
-    struct pk_pop pop;
+    struct pk_pop_result pop;
     uint32_t status;
     *notify = false;
     while ((status = take_chain(&chain, &queue, &known, &pop)) == PK_DONE) {

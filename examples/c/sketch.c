@@ -52,7 +52,7 @@ static void scatter(const uint8_t *front, size_t len) {
 /* ------------------------------------------------------------- one chain */
 
 /* Loads each byte of the request once: first PK_FIRST of them, then the others that are needed. */
-static uint32_t decode(const struct pk_pop *pop, struct pk_call *call) {
+static uint32_t decode(const struct pk_pop_result *pop, struct pk_call *call) {
     size_t have = 0, want = pop->request_len < PK_FIRST ? (size_t)pop->request_len : PK_FIRST;
     for (;;) {
         gather(request, have, want);
@@ -77,7 +77,7 @@ static uint32_t answer(const struct pk_call *call) {
     }
 }
 
-static uint32_t serve_request(const struct pk_pop *pop) {
+static uint32_t serve_request(const struct pk_pop_result *pop) {
     struct pk_call call;
     uint32_t s = decode(pop, &call);
     if (s != PK_DONE) return s;
@@ -106,7 +106,7 @@ static uint32_t push(bool *notify) {
 
 /* PK_IDLE: no chain is available. Else the reason why the queue can't be served further. */
 static uint32_t serve(bool *notify) {
-    struct pk_pop pop;
+    struct pk_pop_result pop;
     uint32_t s;
     while ((s = pk_pop_ring(&chain, &queue, &ring, &pop)) == PK_DONE) {
         if (pop.fault == 0 && (s = serve_request(&pop)) != PK_DONE) break;

@@ -5,6 +5,8 @@ use Rattle.fs_regions.specs.declared.course.Course.{Course}
 use Rattle.fs_regions.specs.declared.walk.QueueWalk.{QueueWalk}
 use Rattle.fs_regions.specs.Places.{Mapped, places_in}
 use Rattle.fs_regions.specs.Walks.{asked_entries, asked_len}
+use Rattle.server_phases.specs.declared.waiting.Awaits.{Awaits}
+use Rattle.server_phases.specs.declared.waiting.Awaits.TheVariants as wants
 use Rattle.fs_chain.specs.declared.queue.QueueState.{QueueState}
 use Rattle.fs_chain.specs.declared.state.InFlight.{InFlight}
 use Rattle.fs_chain.specs.declared.state.ChainReply.{ChainReply}
@@ -135,6 +137,16 @@ is_listing _ = false
 abbrev pub load_len : state.ChainState → ℕ
 load_len (at.Walking course pop_id walk) = asked_len walk
 load_len _ = 0
+
+-- how many bytes of data a call can be answered with, if it is a READ
+abbrev pub file_limit : Awaits → Option ℕ
+file_limit (wants.FileBytes most) = Some most
+file_limit _ = None
+
+-- the same of the call in flight
+abbrev pub read_limit : state.ChainState → Option ℕ
+read_limit (at.Waits out waiting) = file_limit waiting.awaits
+read_limit _ = None
 
 -- the length of the chain's reply buffer; 0 if no chain is in flight
 abbrev pub room_len : state.ChainState → ℕ

@@ -6,14 +6,15 @@ ghost use Rattle.fs_queue.specs.Taking.{total_len, of_direction};
 ghost use Rattle.fs_regions.specs.Places.{left_in, places_in};
 ghost use Rattle.fs_regions.specs.Windows.{IsRangeFrom, LiesApart, LiesAt};
 ghost use Rattle.fs_chain.specs.Numbers.{state_number};
-ghost use Rattle.fs_chain.specs.Orders.{is_free, is_listing, is_out, load_len, memory_error, room_len};
+ghost use Rattle.fs_chain.specs.Orders.{is_free, is_listing, is_out, load_len, memory_error, read_limit};
+ghost use Rattle.fs_chain.specs.Orders.{room_len};
 
 use crate::chain_handle::ChainHandle;
 use crate::error::ChainError;
 use crate::state::ChainState;
 use fs_queue::MOST_LIMIT;
 use fs_regions::range_from;
-use server_phases::Session;
+use server_phases::{Awaits, Session};
 use virtiofsd_fuse::MAX_REQUEST_LEN;
 use vm_memory_core::Permissions;
 
@@ -88,6 +89,19 @@ impl ChainHandle {
         ensures { result ≡ is_listing self.now.state }
     {
         matches!(self.state, ChainState::Lists(_, _))
+    }
+
+    /// How many bytes of data the READ in flight can be answered with; None if no READ is in flight.
+    pub fn read_limit(&self) -> Option<usize>
+        ensures { result ≡ read_limit self.now.state }
+    {
+        match &self.state {
+            ChainState::Waits(_, waiting) => match waiting.awaits() {
+                Awaits::FileBytes { most } => Some(most),
+                _ => None,
+            },
+            _ => None,
+        }
     }
 
     /// How many bytes of a load the pop asks for; 0 if it asks for none.

@@ -1,7 +1,11 @@
 -- Calls of the exports meet the hypotheses of the laws of notifications.
 use Rattle.std.proofs.Common.{arith, ◌≡◌, ◌<◌, ◌^◌, ◌∙◌, ℕ, max, Bool, true, false, List, Option, Some, None, refl, subst, sym}
+use Rattle.std.proofs.Common.{if◌then◌else◌, nat_lt}
 use Rattle.std.specs.Int.{w16, from_le_bytes, to_le_bytes}
+use Rattle.fs_queue.specs.Lawful.{layout_error}
 use Rattle.fs_queue.specs.Queue.{has_bit}
+use Rattle.fs_queue.specs.declared.fault.QueueLayoutError.{QueueLayoutError}
+use Rattle.fs_queue.specs.declared.fault.QueueLayoutError.TheVariants.{BadSize, Misaligned, EndOverflow}
 use Rattle.fs_chain.specs.Numbers.{chain_error_number}
 use Rattle.fs_chain.specs.declared.chain_handle.ChainHandle.{ChainHandle}
 use Rattle.fs_chain.specs.declared.error.ChainError.{ChainError}
@@ -16,12 +20,31 @@ use Rattle.fs_chain_c.specs.Notifications.{AsksKicks, SetsNotification}
 use Rattle.fs_chain_c.specs.Notifying.{NotifyIsACheck, StoresAWish}
 use Rattle.fs_chain_c.specs.Pushing.{EndsHandlePush}
 use Rattle.fs_chain_c.specs.Queues.{IsQueueState}
+use Rattle.fs_chain_c.specs.Statuses.{fields_status, queue_status}
 
 -- a refusal has a number
 pub no_error : (e : ChainError) → 0 ≡ chain_error_number e → ⊥
 no_error error.OutOfMemory is = cc
 no_error error.BadArgument is = cc
 no_error e is = cc
+
+abbrev which : (a b : Bool) → ℕ
+which a b = if a then 100 else if b then 101 else 102
+
+no_which : (a b : Bool) → 0 ≡ which a b → ⊥
+no_which true b is = cc
+no_which false true is = cc
+no_which false false is = cc
+
+no_fields : (error : Option QueueLayoutError) (q : FsQueue) → 0 ≡ fields_status error q → ⊥
+no_fields (Some BadSize) q is = cc
+no_fields (Some Misaligned) q is = cc
+no_fields (Some EndOverflow) q is = cc
+no_fields None q is = no_which (nat_lt q.size q.max_in_flight) (nat_lt 1 q.event_index) is
+
+-- and so has a queue whose numbers aren't valid
+pub no_queue : (q : FsQueue) → 0 ≡ queue_status q → ⊥
+no_queue q is = no_fields (layout_error q.size q.desc q.avail q.used) q is
 
 most : (n : ℕ) → n < 2 ^ 16 → max 1 n < 2 ^ 16
 most n low = grind arith

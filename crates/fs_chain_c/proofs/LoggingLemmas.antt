@@ -21,7 +21,7 @@ use Rattle.fs_chain.specs.declared.state.ChainState as state
 use Rattle.fs_chain.specs.declared.state.ChainState.TheVariants as at
 use Rattle.fs_chain_c.specs.Logging.{PushReportsAddresses, RangesAreRoom, addresses_in, reply_buffer}
 use Rattle.fs_chain_c.specs.Ranges.{range_bytes}
-use Rattle.fs_chain_c.proofs.CalledLemmas.{no_error}
+use Rattle.fs_chain_c.proofs.CalledLemmas.{no_error, no_queue}
 
 -- ---- ranges
 
@@ -123,7 +123,7 @@ pushed_there (at.HasReply out reply) k len s none by =
 pushed_there _ k len s none by = absurd (cc)
 
 pub pushes : PushReportsAddresses
-pushes b b' q q' front front' reported (inl none) = absurd (no_error error.BadArgument none.1)
+pushes b b' q q' front front' reported (inl none) = absurd (no_queue q none.1)
 pushes b b' q q' front front' reported (inr is) = elim is.3 [
   | inl done ↦
       let k = is.1 in

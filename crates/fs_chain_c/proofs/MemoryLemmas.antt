@@ -1,5 +1,6 @@
 -- Why regions in any order are no memory, by those in ascending order; and which neighbours stand apart.
-use Rattle.std.proofs.Common.{◌≡◌, ◌≤◌, ◌<◌, ◌+◌, ◌-◌, ◌∙◌, ℕ, length, List, [], ◌∷◌, All, Bool, false, true, if◌then◌else◌, ◌&&◌, nat_lt}
+use Rattle.std.proofs.Common.{◌≡◌, ◌≤◌, ◌<◌, ◌+◌, ◌-◌, ◌∙◌, ℕ, suc, length, List, [], ◌∷◌, All, Bool, false, true, if◌then◌else◌, ◌&&◌}
+use Rattle.std.proofs.Common.{nat_lt}
 use Rattle.std.proofs.Common.{get_or, Option, Some, None, Result, Ok, Err, IfErr, IfOk, IsPermutation, inr, map, take, drop, ◌++◌, ap}
 use Rattle.std.proofs.Common.{subst, refl, sym, arith}
 use Rattle.std.proofs.lemmas.Bool.Decides.{nat_tests}
@@ -12,10 +13,14 @@ use Rattle.vm_memory.specs.Collecting.{RegionsWereRefused, fault_between, fault_
 use Rattle.vm_memory.proofs.LayoutLemmas.{fault_from, fault_pair, region_of-map}
 use Rattle.vm_memory.specs.declared.error.GuestRegionCollectionError.{GuestRegionCollectionError}
 use Rattle.vm_memory.specs.declared.error.GuestRegionCollectionError.TheVariants.{UnsortedMemoryRegions, MemoryRegionOverlap}
-use Rattle.fs_chain.specs.declared.error.ChainError.{ChainError}
 use Rattle.fs_chain.specs.declared.error.ChainError.TheVariants as error
-use Rattle.fs_chain_c.specs.Memory.{HaveFault, IsMemory, IsNoMemory, IsNoSortedMemory, IsRegion, StandApart, region_of}
+use Rattle.fs_chain_c.specs.Memory.{HasNoRegion, HaveFault, IsMemory, IsNoMemory, IsNoSortedMemory, IsRegion, StandApart}
+use Rattle.fs_chain_c.specs.Memory.{region_of}
+use Rattle.fs_chain_c.specs.Statuses.{region_status}
 use Rattle.fs_chain_c.specs.declared.memory.FsRegion.{FsRegion}
+use Rattle.fs_chain_c.specs.declared.status.Refusal.{Refusal}
+use Rattle.fs_chain_c.specs.declared.status.Refusal.TheVariants.{Of, Invalid}
+use Rattle.fs_chain_c.proofs.RecordLemmas.{parted}
 
 -- ---- neighbours
 
@@ -96,7 +101,7 @@ stand_apart (r ∷ rest) right = (right, omega (arith))
 
 module _ (regions sorted : List FsRegion) (same : IsPermutation regions sorted) (up : IsNonDecreasingBy (λ (r : FsRegion). r.guest) sorted)
     (few : length regions ≤ 64) (are : All IsRegion regions) where
-  memory_of : fault_of (map region_of sorted) ≡ None → RegionsWereRefused (length sorted) → IsNoMemory regions error.OutOfMemory
+  memory_of : fault_of (map region_of sorted) ≡ None → RegionsWereRefused (length sorted) → IsNoMemory regions (Of error.OutOfMemory)
   memory_of right refused =
       let apart = stand_apart sorted right in
       let len = length_permutation regions sorted same in (
@@ -107,20 +112,38 @@ module _ (regions sorted : List FsRegion) (same : IsPermutation regions sorted) 
       )
 
   -- the memory of the regions in ascending order is one of those in any
-  pub a_memory : (r : Result (List Region) ChainError) → IfOk r (λ memory. memory ≡ map region_of sorted) → IfOk r StandApart →
+  pub a_memory : (r : Result (List Region) Refusal) → IfOk r (λ memory. memory ≡ map region_of sorted) → IfOk r StandApart →
       IfOk r (IsMemory regions)
   a_memory (Ok m) is apart = (few, sorted, same, All-permutation IsRegion regions sorted same are, is, apart)
-  a_memory (Err e) is apart = tt
+  a_memory (Err why) is apart = tt
 
-  none_of : (e : ChainError) → IsNoSortedMemory sorted e → IsNoMemory regions e
-  none_of error.BadArgument why =
+  none_of : (why : Refusal) → IsNoSortedMemory sorted why → IsNoMemory regions why
+  none_of (Invalid status) why =
       let len = length_permutation regions sorted same in
-      let some = why.0 in
-      inr (inr (omega (arith, some, len), sorted, why.1, same, up, why.2))
-  none_of error.OutOfMemory why = memory_of why.0 why.1
-  none_of _ why = why
+      let some = why.0.0 in
+      inr (inr (are, few, (omega (arith, some, len), sorted, why.0.1, same, up, why.0.2), why.1))
+  none_of (Of error.OutOfMemory) why = memory_of why.0 why.1
+  none_of (Of _) why = why
 
   -- a refusal of the regions in ascending order is one of those in any
-  pub no_memory : (r : Result (List Region) ChainError) → IfErr r (IsNoSortedMemory sorted) → IfErr r (IsNoMemory regions)
+  pub no_memory : (r : Result (List Region) Refusal) → IfErr r (IsNoSortedMemory sorted) → IfErr r (IsNoMemory regions)
   no_memory (Ok m) why = why
   no_memory (Err e) why = none_of e why
+
+-- ---- the first that isn't a region
+
+-- the numbers that lie where no region does
+abbrev pub nowhere : FsRegion
+nowhere = record { guest = 0; len = 0; host = 0 }
+
+pub no_region : (regions : List FsRegion) (k : ℕ) (r : FsRegion) (status : ℕ) → k < length regions → r ≡ get_or regions k r
+    → All IsRegion (take k regions) → (IsRegion r → ⊥) → status ≡ region_status r → HasNoRegion regions status
+no_region regions k r status within is are none why = record {
+  before = take k regions;
+  region = r;
+  after = drop (suc k) regions;
+  parts = parted regions k r within is;
+  are = are;
+  is_none = none;
+  why = why;
+}

@@ -1,5 +1,6 @@
 -- Records that C saves and restores, by the core's queues.
 use Rattle.std.proofs.Common.{arith, ◌≡◌, ℕ, suc, ◌+◌, ◌-◌, ◌%◌, ◌^◌, ◌<◌, ◌≤◌, ◌==◌, max, All, Bool, true, false, not, List, [], ◌∷◌, ◌++◌}
+use Rattle.std.proofs.Common.{inl, inr}
 use Rattle.std.proofs.Common.{IsTrue, is_some, drop, length, map, take, Option, Some, None, refl, subst, sym, ap, ◌∙◌, if◌then◌else◌}
 use Rattle.std.specs.List.{AllByRecursion}
 use Rattle.std.proofs.lemmas.Bool.Decides.{nat_tests}
@@ -14,7 +15,6 @@ use Rattle.fs_queue.specs.Numbers.{queue_number}
 use Rattle.fs_record.specs.Numbers.{restore_error_number}
 use Rattle.fs_record.specs.Record.{IsRecord, IsSavedQueue, Second, Version}
 use Rattle.fs_record.proofs.ReadingLemmas.{one_reading}
-use Rattle.fs_chain.specs.declared.error.ChainError.{ChainError}
 use Rattle.fs_chain.specs.declared.error.ChainError.TheVariants as error
 use Rattle.fs_chain.specs.declared.queue.QueueState.{QueueState}
 use Rattle.fs_chain_c.specs.declared.device.FsDevice.{FsDevice}
@@ -22,9 +22,12 @@ use Rattle.fs_chain_c.specs.declared.queue.FsQueue.{FsQueue}
 use Rattle.fs_chain_c.specs.Moving.{AreQueueStates, HasItsWidths, HasNoneInFlight, HasValidMaximum, MovesByRecord, RestoresARecord}
 use Rattle.fs_chain_c.specs.Moving.{SavesARecord, recorded}
 use Rattle.fs_chain_c.specs.Queues.{IsQueue, IsQueueState, stop_number}
-use Rattle.fs_chain_c.specs.Records.{HasNoneOut, Restored, HasRecord, TooFewQueues, NoRecord, ReadsSo, RestoreOutcome, SavesSo, bytes_of}
-use Rattle.fs_chain_c.specs.Records.{numbers_over, queue_of, read_status, restored_over, saved_status}
-use Rattle.fs_chain_c.proofs.CalledLemmas.{no_error}
+use Rattle.fs_chain_c.specs.Records.{HasNoneOut, Restored, HasRecord, TooFewQueues, NoDevice, NoRecord, ReadsSo, RestoreOutcome, SavesSo}
+use Rattle.fs_chain_c.specs.Records.{UnfitQueues, bytes_of, numbers_over, queue_of, read_status, restored_over, saved_status}
+use Rattle.fs_chain_c.specs.Statuses.{device_status}
+use Rattle.fs_chain_c.specs.declared.status.Refusal.{Refusal}
+use Rattle.fs_chain_c.specs.declared.status.Refusal.TheVariants.{Of, Invalid}
+use Rattle.fs_chain_c.proofs.CalledLemmas.{no_error, no_queue}
 
 -- ---- a queue's numbers, and the core's queue
 
@@ -50,10 +53,17 @@ all_recorded _ _ are = absurd are
 
 -- ---- saving
 
-saved_so : (d : FsDevice) (qs : List FsQueue) (buffer buffer' : List ℕ) (len : ℕ) (how : Option ChainError) → 0 ≡ saved_status how
+no_device : (status : ℕ) → 0 ≡ status → status ≡ device_status → ⊥
+no_device status is device = cc
+
+saved_so : (d : FsDevice) (qs : List FsQueue) (buffer buffer' : List ℕ) (len : ℕ) (how : Option Refusal) → 0 ≡ saved_status how
     → SavesSo d qs buffer how len buffer' → SavesSo d qs buffer None len buffer'
 saved_so d qs buffer buffer' len None is so = so
-saved_so d qs buffer buffer' len (Some e) is so = absurd (no_error e is)
+saved_so d qs buffer buffer' len (Some (Of e)) is so = absurd (no_error e is)
+saved_so d qs buffer buffer' len (Some (Invalid status)) is so = elim so.0 [
+  | inl device ↦ absurd (no_device status is device.1)
+  | inr queues ↦ absurd (no_queue queues.1.queue (is ∙ queues.1.refused.1))
+]
 
 one_position : (p r : ℕ) → p < 2 ^ 16 → r < 2 ^ 16 → (p + (2 ^ 16 - r)) % 2 ^ 16 ≡ 0 → r ≡ p
 one_position p r fp fr none = omega arith
@@ -116,7 +126,9 @@ read_so : (d : FsDevice) (queues : List FsQueue) (saved : List ℕ) (how : Resto
 read_so d queues saved (Restored options qs) count d' queues' is so = (options, qs, so)
 read_so d queues saved (TooFewQueues options qs) count d' queues' is so = absurd (no_error error.ShortBuffer is)
 read_so d queues saved (NoRecord e) count d' queues' is so = absurd (no_record (restore_error_number e) is)
-read_so d queues saved _ count d' queues' is so = absurd (no_error error.BadArgument is)
+read_so d queues saved (UnfitQueues options qs status) count d' queues' is so =
+    absurd (no_queue (numbers_over so.4.old so.4.queue) (is ∙ so.4.why))
+read_so d queues saved NoDevice count d' queues' is so = absurd (cc is)
 
 flag_back : (b : Bool) → not ((if b then 1 else 0) == 0) ≡ b
 flag_back true = refl

@@ -5,7 +5,6 @@ use Rattle.std.proofs.lemmas.Nat.{from_le_bytes-to_le_bytes_2}
 use Rattle.fs_queue.specs.Returning.{Store}
 use Rattle.vm_iotlb.specs.declared.permissions.Permissions.TheVariants.{Write}
 use Rattle.fs_regions.specs.Places.{Mapped}
-use Rattle.fs_chain.specs.declared.error.ChainError.TheVariants as error
 use Rattle.fs_chain.specs.Events.{notifies_of}
 use Rattle.notify.specs.Threads.{ThreadedQueue, Wishes, WishIsThere, after_act}
 use Rattle.fs_notify.proofs.Returns as givers
@@ -16,7 +15,7 @@ use Rattle.fs_chain_c.specs.Notifications.{ReportsStore}
 use Rattle.fs_chain_c.specs.Notifying.{NotifyIsACheck, StoresAWish}
 use Rattle.fs_chain_c.specs.Queues.{flag}
 use Rattle.fs_chain_c.specs.Pushing.{StandsHere}
-use Rattle.fs_chain_c.proofs.CalledLemmas.{no_error}
+use Rattle.fs_chain_c.proofs.CalledLemmas.{no_error, no_queue}
 
 -- a store that is told without an error
 pub reported_store : (regions : Mapped) (store : Store) (reported : FsStore) → ReportsStore regions (Some store) reported 0
@@ -25,7 +24,7 @@ reported_store regions store reported (inl done) = (done.1, done.2, done.3)
 reported_store regions store reported (inr lost) = absurd (cc lost.0)
 
 pub wishes : StoresAWish
-wishes b q reported (inl none) = absurd (no_error error.BadArgument none.1)
+wishes b q reported (inl none) = absurd (no_queue q none.1)
 wishes b q reported (inr is) = (
   is.1,
   is.2,
@@ -47,7 +46,7 @@ flag_is true = refl
 flag_is false = refl
 
 pub checks : NotifyIsACheck
-checks b b' q q' seen notify (inl none) fits = absurd (no_error error.BadArgument none.2.0)
+checks b b' q q' seen notify (inl none) fits = absurd (no_queue q none.2.0)
 checks b b' q q' seen notify (inr is) fits = elim is.3 [
   | inl ended ↦ (
     is.1,

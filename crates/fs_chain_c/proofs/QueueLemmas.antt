@@ -8,7 +8,8 @@ use Rattle.fs_queue.specs.Queue.{Queue}
 use Rattle.live_machine.proofs.Queues.{same_some}
 use Rattle.fs_chain_c.specs.declared.queue.FsQueue.{FsQueue}
 use Rattle.fs_chain_c.specs.Queues.{IsQueue}
-use Rattle.fs_chain_c.specs.Records.{FitRecord, numbers_over, restored_over}
+use Rattle.fs_chain_c.specs.Records.{FitBefore, FitRecord, HasUnfit, numbers_over, restored_over}
+use Rattle.fs_chain_c.specs.Statuses.{queue_status}
 
 over_suc : (olds : List FsQueue) (qs : List Queue) (k : ℕ) (old : FsQueue) (q : Queue)
     → slice_get (restored_over olds (take k qs)) k ≡ Some old → slice_get qs k ≡ Some q
@@ -34,11 +35,6 @@ over_next olds now qs k old fresh q is_now low there is_q is_fresh =
 
 -- ---- queues that fit a record
 
--- the first so many queues fit a record
-abbrev pub FitBefore : (olds : List FsQueue) → List Queue → (count : ℕ) → Type 0
-FitBefore olds qs n =
-    (k : ℕ) (old : FsQueue) (q : Queue) → k < n → slice_get olds k ≡ Some old → slice_get qs k ≡ Some q → IsQueue (numbers_over old q)
-
 pub none_fits : (olds : List FsQueue) (qs : List Queue) → FitBefore olds qs 0
 none_fits olds qs k old q less was is = absurd (omega (arith, less))
 
@@ -63,10 +59,16 @@ all_fit olds qs n few fit k old q was is = elim (cases_lt k (length qs)) [
   | inr past ↦ absurd (cc (sym is ∙ slice_get_past qs k past))
 ]
 
-pub one_unfit : (olds : List FsQueue) (qs : List Queue) (k : ℕ) (old fresh : FsQueue) (q : Queue)
+pub one_unfit : (olds : List FsQueue) (qs : List Queue) (k : ℕ) (old fresh : FsQueue) (q : Queue) (status : ℕ)
     → k < length olds → k < length qs → q ≡ get_or qs k q → fresh ≡ numbers_over (get_or olds k old) q → (IsQueue fresh → ⊥)
-    → FitRecord olds qs → ⊥
-one_unfit olds qs k old fresh q low there is_q is_fresh unfit fit =
-    unfit
-    (subst IsQueue (sym is_fresh)
-    (fit k (get_or olds k old) q (slice_get-get_or olds k old low) (slice_get_read qs (length qs) k q refl there is_q)))
+    → status ≡ queue_status fresh → FitBefore olds qs k → HasUnfit olds qs status
+one_unfit olds qs k old fresh q status low there is_q is_fresh unfit why before = record {
+  at = k;
+  old = get_or olds k old;
+  queue = q;
+  was = slice_get-get_or olds k old low;
+  is = slice_get_read qs (length qs) k q refl there is_q;
+  before = before;
+  unfit = λ fit. unfit (subst IsQueue (sym is_fresh) fit);
+  why = why ∙ ap queue_status is_fresh;
+}

@@ -7,10 +7,10 @@ use Rattle.vm_values.specs.Fields.{spelled, field_bytes}
 use Rattle.fs_queue.specs.Queue.{Queue}
 use Rattle.fs_record.specs.Fields.{head_fields}
 use Rattle.fs_record.specs.Record.{Second, end_bytes, head_of, queue_bytes, record_bytes}
-use Rattle.fs_chain.specs.declared.error.ChainError.{ChainError}
 use Rattle.fs_chain_c.specs.declared.queue.FsQueue.{FsQueue}
 use Rattle.fs_chain_c.specs.Queues.{IsQueue}
 use Rattle.fs_chain_c.specs.Records.{HasNoneOut, RefusesToSave, RefusesQueues}
+use Rattle.fs_chain_c.specs.declared.status.Refusal.{Refusal}
 
 -- the numbers that lie where no queue does
 abbrev pub no_numbers : FsQueue
@@ -69,22 +69,22 @@ never_full page_size limit options qs has part rest full few known is cut more s
     let sum = length-append part rest in
     let all = ap length same in omega (arith, few, long, whole, parts, sum, more, all)
 
--- what stands before a queue of some, it, and what stands behind it
-parted : (qs : List FsQueue) (k : ℕ) (q : FsQueue) → k < length qs → q ≡ get_or qs k q → qs ≡ take k qs ++ q ∷ drop (suc k) qs
-parted [] k q within is = absurd (omega (arith, within))
-parted (p ∷ qs) zero q within is = ap (λ (x : FsQueue). x ∷ qs) (sym is)
-parted (p ∷ qs) (suc k) q within is = ap (λ (l : List FsQueue). p ∷ l) (parted qs k q (omega (arith, within)) is)
+-- what stands before one of some, it, and what stands behind it
+pub parted : {A : Type 0} (xs : List A) (k : ℕ) (x : A) → k < length xs → x ≡ get_or xs k x → xs ≡ take k xs ++ x ∷ drop (suc k) xs
+parted [] k x within is = absurd (omega (arith, within))
+parted {A} (y ∷ xs) zero x within is = ap (λ (z : A). z ∷ xs) (sym is)
+parted {A} (y ∷ xs) (suc k) x within is = ap (λ (l : List A). y ∷ l) (parted xs k x (omega (arith, within)) is)
 
 -- one that is refused is the first, if those before it aren't
-pub first_refused : (qs : List FsQueue) (k : ℕ) (q : FsQueue) (e : ChainError) → k < length qs → q ≡ get_or qs k q → All IsQueue (take k qs)
+pub first_refused : (qs : List FsQueue) (k : ℕ) (q : FsQueue) (why : Refusal) → k < length qs → q ≡ get_or qs k q → All IsQueue (take k qs)
     → All HasNoneOut (take k qs)
-    → RefusesToSave q e → RefusesQueues qs e
-first_refused qs k q e within is are none_out why = record {
+    → RefusesToSave q why → RefusesQueues qs why
+first_refused qs k q why within is are none_out refused = record {
   before = take k qs;
   queue = q;
   after = drop (suc k) qs;
   parts = parted qs k q within is;
   are = are;
   none_out = none_out;
-  why = why;
+  refused = refused;
 }

@@ -47,7 +47,6 @@ empty_call = record {
   kind = 0;
   answer = 0;
   opcode = 0;
-  error = 0;
   fault = 0;
   unique = 0;
   uid = 0;

@@ -15,7 +15,6 @@ use Rattle.fs_chain.specs.declared.answering.Replied.{Replied}
 use Rattle.fs_chain.specs.declared.decoding.Decoded.{Decoded}
 use Rattle.fs_chain.specs.declared.decoding.Decoded.TheVariants as reports
 use Rattle.fs_chain.specs.declared.error.ChainError.{ChainError}
-use Rattle.fs_chain.specs.declared.error.ChainError.TheVariants.{BadArgument}
 use Rattle.fs_chain.specs.declared.chain_handle.ChainHandle.{ChainHandle}
 use Rattle.fs_chain.specs.Answers.{CanBeGiven, IfWaits, IsGiven, IsNotTaken, IsWaiting}
 use Rattle.fs_chain.specs.Decoding.{IfUndecoded, ReportStandsIn, ReportsMeaning, wanted_after, wanted_by}
@@ -27,6 +26,7 @@ use Rattle.fs_chain_c.specs.declared.call.FsCall.{FsCall}
 use Rattle.fs_chain_c.specs.declared.device.FsDevice.{FsDevice}
 use Rattle.fs_chain_c.specs.Calls.{call_fields, low, empty_call, numbered}
 use Rattle.fs_chain_c.specs.Memory.{IsDevice}
+use Rattle.fs_chain_c.specs.Statuses.{device_status}
 
 -- ---- an answer
 
@@ -137,11 +137,11 @@ DecodesSo b d request call status b' =
     × (call ≡ record fields { ticket = b.serial })
     × ReportStandsIn s.options.0 request made
 
--- a `ChainHandle` decodes the first bytes of a request; `BadArgument`, if the numbers aren't a device's
+-- a `ChainHandle` decodes the first bytes of a request; or the numbers aren't a device's, which is the status
 abbrev pub DecodesHandle :
     ChainHandle → FsDevice → (request : List ℕ) → FsCall → (status : ℕ) → ChainHandle → Type 0
 DecodesHandle b d request call status b' =
-    ((IsDevice d → ⊥) × (status ≡ chain_error_number BadArgument) × (call ≡ empty_call) × (b' ≡ b))
+    ((IsDevice d → ⊥) × (status ≡ device_status) × (call ≡ empty_call) × (b' ≡ b))
     ⊎ (IsDevice d
     × (e : ChainError)
     × CannotAsk b request e b'

@@ -5,7 +5,7 @@ use Rattle.vm_memory.specs.Layout.{Region}
 use Rattle.fs_regions.specs.Ahead.{AheadBytes}
 use Rattle.fs_regions.specs.Places.{untranslated}
 use Rattle.fs_chain.specs.declared.error.ChainError.{ChainError}
-use Rattle.fs_chain.specs.declared.error.ChainError.TheVariants.{BadArgument, ChainInFlight, OutOfMemory}
+use Rattle.fs_chain.specs.declared.error.ChainError.TheVariants.{ChainInFlight, OutOfMemory}
 use Rattle.fs_chain.specs.declared.error.ChainError.TheVariants.{WrongOrder}
 use Rattle.fs_chain.specs.declared.state.ChainState.TheVariants as at
 use Rattle.fs_chain.specs.Numbers.{chain_error_number}
@@ -16,11 +16,14 @@ use Rattle.fs_chain_c.specs.declared.device.FsDevice.{FsDevice}
 use Rattle.fs_chain_c.specs.declared.handle.FsChain.{FsChain}
 use Rattle.fs_chain_c.specs.declared.memory.FsRegion.{FsRegion}
 use Rattle.fs_chain_c.specs.declared.queue.FsQueue.{FsQueue}
+use Rattle.fs_chain_c.specs.declared.status.Refusal.{Refusal}
+use Rattle.fs_chain_c.specs.declared.status.Refusal.TheVariants.{Of, Invalid}
 use Rattle.fs_chain_c.specs.declared.pushing.FsStores.{FsStores}
-use Rattle.fs_chain_c.specs.declared.popping.FsPop.{FsPop}
+use Rattle.fs_chain_c.specs.declared.popping.FsPopResult.{FsPopResult}
 use Rattle.fs_chain_c.specs.declared.windows.FsWindow.{FsWindow}
 use Rattle.fs_chain_c.specs.Memory.{IsDevice, IsMemory, IsNoMemory}
 use Rattle.fs_chain_c.specs.Owned.{null}
+use Rattle.fs_chain_c.specs.Statuses.{device_status, refusal_status}
 use Rattle.fs_chain_c.specs.Pushing.{DropsHandleChain, EndsHandlePush, PushesHandle, no_stores}
 use Rattle.fs_chain_c.specs.Popping.{PopsHandle, PopsHandleAhead, no_step}
 use Rattle.fs_chain_c.specs.Windows.{FillsWindows}
@@ -69,31 +72,37 @@ ProceedsOver b d regions b' =
 
 -- why the memory isn't set, in this order: the numbers aren't a device's; the regions aren't a memory; a pop
 -- is under way or a chain in flight
-abbrev pub RefusesMemory : ChainHandle → FsDevice → List FsRegion → ChainError → Type 0
-RefusesMemory b d regions e =
-    ((e ≡ BadArgument) × (IsDevice d → ⊥))
-    ⊎ (IsDevice d × IsNoMemory regions e)
+abbrev pub RefusesMemory : ChainHandle → FsDevice → List FsRegion → Refusal → Type 0
+RefusesMemory b d regions why =
+    ((why ≡ Invalid device_status) × (IsDevice d → ⊥))
+    ⊎ (IsDevice d × IsNoMemory regions why)
     ⊎ (IsDevice d
     × ((memory : List Region) × IsMemory regions memory)
+    × (e : ChainError)
+    × (why ≡ Of e)
     × (memory_error b.state d.limit ≡ Some e))
 
--- a `ChainHandle`'s memory is set, or an error is returned and nothing changes
+-- a `ChainHandle`'s memory is set, or a status is returned and nothing changes
 abbrev pub SetsHandle : ChainHandle → FsDevice → List FsRegion → (status : ℕ) → ChainHandle → Type 0
 SetsHandle b d regions status b' =
     ((status ≡ 0) × ProceedsOver b d regions b')
-    ⊎ ((e : ChainError) × (status ≡ chain_error_number e) × RefusesMemory b d regions e × (b' ≡ b))
+    ⊎ ((why : Refusal) × (status ≡ refusal_status why) × RefusesMemory b d regions why × (b' ≡ b))
 
 -- why no `ChainHandle` is made: the numbers aren't a device's; the regions aren't a memory; or they are, and
 -- the allocation of the `ChainHandle` failed
-abbrev pub RefusesNew : FsDevice → List FsRegion → ChainError → Type 0
-RefusesNew d regions e =
-    ((e ≡ BadArgument) × (IsDevice d → ⊥)) ⊎ (IsDevice d × IsNoMemory regions e)
-    ⊎ ((e ≡ OutOfMemory) × IsDevice d × ((memory : List Region) × IsMemory regions memory) × RoomWasRefused 1)
+abbrev pub RefusesNew : FsDevice → List FsRegion → Refusal → Type 0
+RefusesNew d regions why =
+    ((why ≡ Invalid device_status) × (IsDevice d → ⊥))
+    ⊎ (IsDevice d × IsNoMemory regions why)
+    ⊎ ((why ≡ Of OutOfMemory)
+    × IsDevice d
+    × ((memory : List Region) × IsMemory regions memory)
+    × RoomWasRefused 1)
 
 -- a new `ChainHandle` with its memory, or none is made
 abbrev pub MakesHandle : FsDevice → List FsRegion → (status : ℕ) → Option ChainHandle → Type 0
 MakesHandle d regions status None =
-    (e : ChainError) × (status ≡ chain_error_number e) × RefusesNew d regions e
+    (why : Refusal) × (status ≡ refusal_status why) × RefusesNew d regions why
 MakesHandle d regions status (Some b') =
     (b : ChainHandle) × IsNewHandle b × (status ≡ 0) × ProceedsOver b d regions b'
 
@@ -118,7 +127,7 @@ Numbers before first status after =
     OnHandle (λ b b'. NumbersHandle b first status b') (status ≡ chain_error_number WrongOrder) before after
 
 -- the handle pops a chain, by the bytes of the last load
-abbrev pub Pops : Option ChainHandle → FsQueue → (loaded : List ℕ) → (status : ℕ) → FsPop →
+abbrev pub Pops : Option ChainHandle → FsQueue → (loaded : List ℕ) → (status : ℕ) → FsPopResult →
     Option ChainHandle → FsQueue → Type 0
 Pops before q loaded status step after q' =
     OnHandle (λ b b'. PopsHandle b q loaded step status b' q') ((status ≡ chain_error_number WrongOrder)
@@ -126,8 +135,8 @@ Pops before q loaded status step after q' =
     × (q' ≡ q)) before after
 
 -- the handle pops a chain by loads that were made ahead
-abbrev pub PopsAheadOf : Option ChainHandle → FsQueue → (ahead : List AheadBytes) → (status : ℕ) → FsPop →
-    Option ChainHandle → FsQueue → Type 0
+abbrev pub PopsAheadOf : Option ChainHandle → FsQueue → (ahead : List AheadBytes) → (status : ℕ) →
+    FsPopResult → Option ChainHandle → FsQueue → Type 0
 PopsAheadOf before q ahead status step after q' =
     OnHandle (λ b b'. PopsHandleAhead b q ahead step status b' q') ((status ≡ chain_error_number WrongOrder)
     × (step ≡ no_step)

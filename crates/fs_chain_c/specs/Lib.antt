@@ -17,6 +17,7 @@ pub mod Records
 pub mod Replies
 pub mod Pushing
 pub mod States
+pub mod Statuses
 pub mod Popping
 pub mod Windows
 pub mod Iotlbs

@@ -1,16 +1,18 @@
 -- The memory that C passes: regions in any order.
-use Rattle.std.specs.Prelude.{◌≡◌, ◌≤◌, ◌<◌, ◌+◌, ◌%◌, ◌^◌, ◌⊎◌, IsTrue, List, [], ◌∷◌, All, map, length}
-use Rattle.std.specs.Prelude.{Some, None, IsPermutation}
+use Rattle.std.specs.Prelude.{◌≡◌, ◌≤◌, ◌<◌, ◌+◌, ◌%◌, ◌^◌, ◌⊎◌, IsTrue, List, [], ◌∷◌, ◌++◌, ℕ, All, map}
+use Rattle.std.specs.Prelude.{Some, None, IsPermutation, length}
 use Rattle.std.specs.List.Sorted.{IsNonDecreasingBy}
 use Rattle.vm_memory.specs.Layout.{Region}
 use Rattle.vm_memory.specs.Collecting.{RegionsWereRefused, fault_of}
 use Rattle.vm_memory.specs.declared.error.GuestRegionCollectionError.{GuestRegionCollectionError}
 use Rattle.fs_regions.specs.Places.{HasWholePages}
 use Rattle.server_replies.specs.PageSizes.{is_page_size}
-use Rattle.fs_chain.specs.declared.error.ChainError.{ChainError}
-use Rattle.fs_chain.specs.declared.error.ChainError.TheVariants.{OutOfMemory, BadArgument}
+use Rattle.fs_chain.specs.declared.error.ChainError.TheVariants.{OutOfMemory}
 use Rattle.fs_chain_c.specs.declared.device.FsDevice.{FsDevice}
 use Rattle.fs_chain_c.specs.declared.memory.FsRegion.{FsRegion}
+use Rattle.fs_chain_c.specs.declared.status.Refusal.{Refusal}
+use Rattle.fs_chain_c.specs.declared.status.Refusal.TheVariants.{Of, Invalid}
+use Rattle.fs_chain_c.specs.Statuses.{many_status, overlap_status, region_status}
 
 -- a device's page size and limit are valid
 abbrev pub IsDevice : FsDevice → Type 0
@@ -48,11 +50,24 @@ DoOverlap regions =
     × IsNonDecreasingBy (λ (r : FsRegion). r.guest) sorted
     × (fault_of (map region_of sorted) ≡ Some fault)
 
--- why these regions aren't a memory: there are too many, one isn't a region, or two have an address in
--- common. `OutOfMemory` only if the regions are a memory and their allocation failed
-abbrev pub IsNoMemory : List FsRegion → ChainError → Type 0
-IsNoMemory regions BadArgument = (64 < length regions) ⊎ (All IsRegion regions → ⊥) ⊎ DoOverlap regions
-IsNoMemory regions OutOfMemory =
+-- the first of these regions that isn't one has this status
+pub record HasNoRegion (regions : List FsRegion) (status : ℕ) : Type 0 where
+  pub before : List FsRegion
+  pub region : FsRegion
+  pub after : List FsRegion
+  pub parts : regions ≡ before ++ region ∷ after
+  pub are : All IsRegion before
+  pub is_none : IsRegion region → ⊥
+  pub why : status ≡ region_status region
+
+-- why these regions aren't a memory, in this order: one isn't a region; there are too many; two have an
+-- address in common; or they are a memory, and their allocation failed
+abbrev pub IsNoMemory : List FsRegion → Refusal → Type 0
+IsNoMemory regions (Invalid status) =
+    HasNoRegion regions status
+    ⊎ (All IsRegion regions × (64 < length regions) × (status ≡ many_status))
+    ⊎ (All IsRegion regions × (length regions ≤ 64) × DoOverlap regions × (status ≡ overlap_status))
+IsNoMemory regions (Of OutOfMemory) =
     (0 < length regions)
     × RegionsWereRefused (length regions)
     × (memory : List Region)
@@ -67,8 +82,8 @@ HaveFault regions =
     × (fault_of (map region_of regions) ≡ Some fault)
 
 -- why these regions, in their order, aren't a memory: a fault, or their allocation failed
-abbrev pub IsNoSortedMemory : List FsRegion → ChainError → Type 0
-IsNoSortedMemory regions BadArgument = HaveFault regions
-IsNoSortedMemory regions OutOfMemory =
+abbrev pub IsNoSortedMemory : List FsRegion → Refusal → Type 0
+IsNoSortedMemory regions (Invalid status) = HaveFault regions × (status ≡ overlap_status)
+IsNoSortedMemory regions (Of OutOfMemory) =
     (fault_of (map region_of regions) ≡ None) × RegionsWereRefused (length regions)
 IsNoSortedMemory regions _ = ⊥

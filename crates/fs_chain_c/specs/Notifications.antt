@@ -4,7 +4,7 @@ use Rattle.std.specs.Int.{w16, to_le_bytes}
 use Rattle.vm_iotlb.specs.declared.permissions.Permissions.TheVariants.{Write}
 use Rattle.fs_queue.specs.Returning.{Store}
 use Rattle.fs_regions.specs.Places.{Mapped}
-use Rattle.fs_chain.specs.declared.error.ChainError.TheVariants.{BadArgument, WrongOrder}
+use Rattle.fs_chain.specs.declared.error.ChainError.TheVariants.{WrongOrder}
 use Rattle.fs_chain.specs.declared.queue.QueueState.{QueueState}
 use Rattle.fs_chain.specs.declared.chain_handle.ChainHandle.{ChainHandle}
 use Rattle.fs_chain.specs.Events.{notification_store}
@@ -13,6 +13,7 @@ use Rattle.fs_chain_c.specs.declared.notifications.FsStore.{FsStore}
 use Rattle.fs_chain_c.specs.declared.queue.FsQueue.{FsQueue}
 use Rattle.fs_chain_c.specs.Handles.{OnHandle}
 use Rattle.fs_chain_c.specs.Queues.{IsQueueState, IsQueue}
+use Rattle.fs_chain_c.specs.Statuses.{queue_status}
 use Rattle.fs_chain_c.specs.Pushing.{IsNotHere, StandsHere}
 
 -- nothing is to be stored
@@ -29,10 +30,10 @@ ReportsStore regions (Some s) reported status =
     × (reported.len ≡ 2))
     ⊎ ((status ≡ 77) × IsNotHere regions Write s.address 2 × (reported ≡ no_store))
 
--- the store for a queue of C's; `BadArgument`, if the numbers aren't a queue's
+-- the store for a queue of C's; the status of the first cause, if the numbers aren't a queue's
 abbrev pub SetsNotification : ChainHandle → FsQueue → (enabled : ℕ) → FsStore → (status : ℕ) → Type 0
 SetsNotification b q enabled reported status =
-    ((IsQueue q → ⊥) × (status ≡ chain_error_number BadArgument) × (reported ≡ no_store))
+    ((IsQueue q → ⊥) × (status ≡ queue_status q) × (reported ≡ no_store))
     ⊎ (IsQueue q
     × (k : QueueState)
     × IsQueueState q k

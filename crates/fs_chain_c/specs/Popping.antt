@@ -5,7 +5,6 @@ use Rattle.fs_queue.specs.Numbers.{chain_fault_number, queue_number}
 use Rattle.fs_regions.specs.Ahead.{AheadBytes}
 use Rattle.fs_chain.specs.Ahead.{PopsAhead, ahead_error}
 use Rattle.fs_chain.specs.declared.error.ChainError.{ChainError}
-use Rattle.fs_chain.specs.declared.error.ChainError.TheVariants.{BadArgument}
 use Rattle.fs_chain.specs.declared.loads.LoadOutcome as outcome
 use Rattle.fs_chain.specs.declared.loads.LoadOutcome.TheVariants as proceeds
 use Rattle.fs_chain.specs.declared.queue.QueueState.{QueueState}
@@ -15,9 +14,10 @@ use Rattle.fs_chain.specs.declared.chain_handle.ChainHandle.{ChainHandle}
 use Rattle.fs_chain.specs.Loads.{ProceedsSo, HasNoPlace, IsLoadWindow, IsSame, RefusesWalk, came}
 use Rattle.fs_chain.specs.Numbers.{chain_error_number}
 use Rattle.fs_chain_c.specs.declared.queue.FsQueue.{FsQueue}
-use Rattle.fs_chain_c.specs.declared.popping.FsPop.{FsPop}
+use Rattle.fs_chain_c.specs.declared.popping.FsPopResult.{FsPopResult}
 use Rattle.fs_chain_c.specs.Iotlbs.{access_number}
 use Rattle.fs_chain_c.specs.Queues.{IsBegun, IsQueueState, put}
+use Rattle.fs_chain_c.specs.Statuses.{begun_status}
 
 -- the host address of a window: the number of its region, and its offset there
 abbrev pub host_at : Window → ℕ
@@ -26,7 +26,7 @@ host_at v = (v.block + v.offset) % 2 ^ 64
 -- ---- the result
 
 -- the result without a load and without a chain
-abbrev pub no_step : FsPop
+abbrev pub no_step : FsPopResult
 no_step =
     record {
       load_at = 0;
@@ -42,24 +42,24 @@ no_step =
     }
 
 -- the result that asks for a load, by its host address and length
-abbrev pub load_step : Window → FsPop
+abbrev pub load_step : Window → FsPopResult
 load_step v = record no_step { load_at = host_at v; load_len = v.len }
 
 -- the load that a pop still needs; 77 if its address isn't mapped
-abbrev pub ReportsLoad : ChainHandle → FsPop → (status : ℕ) → Type 0
+abbrev pub ReportsLoad : ChainHandle → FsPopResult → (status : ℕ) → Type 0
 ReportsLoad b step status =
     ((v : Window) × IsLoadWindow b (came b) v × (status ≡ 32) × (step ≡ load_step v))
     ⊎ (HasNoPlace b (came b) × (status ≡ 77) × (step ≡ no_step))
 
 -- the load that a pop still needs after a refused call; nothing, if it needs none or the address isn't mapped
-abbrev pub ReportsWanted : ChainHandle → FsPop → Type 0
+abbrev pub ReportsWanted : ChainHandle → FsPopResult → Type 0
 ReportsWanted b step =
     ((v : Window) × IsLoadWindow b (came b) v × (step ≡ load_step v))
     ⊎ (HasNoPlace b (came b) × (step ≡ no_step))
 
 -- the result of a pop and its status: a load, no chain (33), a miss (39), a refusal, a chain, or a faulty
 -- chain
-abbrev pub ReportsOutcome : ChainHandle → outcome.LoadOutcome → FsPop → (status : ℕ) → Type 0
+abbrev pub ReportsOutcome : ChainHandle → outcome.LoadOutcome → FsPopResult → (status : ℕ) → Type 0
 ReportsOutcome b proceeds.Part step status = ReportsLoad b step status
 ReportsOutcome b (proceeds.On (comes.Load n)) step status = ReportsLoad b step status
 ReportsOutcome b (proceeds.On comes.Idle) step status = (status ≡ 33) × (step ≡ no_step)
@@ -81,8 +81,8 @@ ReportsOutcome b (proceeds.On (comes.Faulty head fault)) step status =
 
 -- a pop over the core's queue; on an error nothing changes, and the result is the load that the pop
 -- still needs
-abbrev pub WalksPreserved : ChainHandle → FsQueue → QueueState → (loaded : List ℕ) → FsPop → (status : ℕ) →
-    ChainHandle → FsQueue → Type 0
+abbrev pub WalksPreserved : ChainHandle → FsQueue → QueueState → (loaded : List ℕ) → FsPopResult →
+    (status : ℕ) → ChainHandle → FsQueue → Type 0
 WalksPreserved b q k loaded step status b' q' =
     ((reported : outcome.LoadOutcome) × (k' : QueueState)
     × ProceedsSo b k loaded reported b' k'
@@ -95,17 +95,18 @@ WalksPreserved b q k loaded step status b' q' =
     × IsSame b b'
     × (q' ≡ q))
 
--- a pop over a queue of C's; `BadArgument`, if the numbers aren't those of a queue that was begun
+-- a pop over a queue of C's; the status of the first cause, if the numbers aren't those of a queue that was
+-- begun
 abbrev pub PopsHandle :
-    ChainHandle → FsQueue → (loaded : List ℕ) → FsPop → (status : ℕ) → ChainHandle → FsQueue → Type 0
+    ChainHandle → FsQueue → (loaded : List ℕ) → FsPopResult → (status : ℕ) → ChainHandle → FsQueue → Type 0
 PopsHandle b q loaded step status b' q' =
-    ((IsBegun q → ⊥) × (status ≡ chain_error_number BadArgument) × (step ≡ no_step) × (b' ≡ b) × (q' ≡ q))
+    ((IsBegun q → ⊥) × (status ≡ begun_status q) × (step ≡ no_step) × (b' ≡ b) × (q' ≡ q))
     ⊎ (IsBegun q × (k : QueueState) × IsQueueState q k × WalksPreserved b q k loaded step status b' q')
 
 -- a pop over the core's queue by loads that were made ahead: calls of `pop` one after another. On an error
 -- nothing changes, and the result is the load that the pop still needs
-abbrev pub WalksPreservedAhead : ChainHandle → FsQueue → QueueState → (ahead : List AheadBytes) → FsPop →
-    (status : ℕ) → ChainHandle → FsQueue → Type 0
+abbrev pub WalksPreservedAhead : ChainHandle → FsQueue → QueueState → (ahead : List AheadBytes) →
+    FsPopResult → (status : ℕ) → ChainHandle → FsQueue → Type 0
 WalksPreservedAhead b q k ahead step status b' q' =
     ((reported : PopOutcome) × (k' : QueueState)
     × PopsAhead ahead b b' k k' (proceeds.On reported)
@@ -118,9 +119,10 @@ WalksPreservedAhead b q k ahead step status b' q' =
     × (b' ≡ b)
     × (q' ≡ q))
 
--- such a pop over a queue of C's; `BadArgument`, if the numbers aren't those of a queue that was begun
-abbrev pub PopsHandleAhead : ChainHandle → FsQueue → (ahead : List AheadBytes) → FsPop → (status : ℕ) →
+-- such a pop over a queue of C's; the status of the first cause, if the numbers aren't those of a queue that
+-- was begun
+abbrev pub PopsHandleAhead : ChainHandle → FsQueue → (ahead : List AheadBytes) → FsPopResult → (status : ℕ) →
     ChainHandle → FsQueue → Type 0
 PopsHandleAhead b q ahead step status b' q' =
-    ((IsBegun q → ⊥) × (status ≡ chain_error_number BadArgument) × (step ≡ no_step) × (b' ≡ b) × (q' ≡ q))
+    ((IsBegun q → ⊥) × (status ≡ begun_status q) × (step ≡ no_step) × (b' ≡ b) × (q' ≡ q))
     ⊎ (IsBegun q × (k : QueueState) × IsQueueState q k × WalksPreservedAhead b q k ahead step status b' q')

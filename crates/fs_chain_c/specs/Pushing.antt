@@ -8,7 +8,7 @@ use Rattle.vm_memory.specs.Memory.{location}
 use Rattle.vm_memory.specs.Slices.{IsWindowAt}
 use Rattle.fs_regions.specs.Places.{Mapped, left_in, places_in}
 use Rattle.fs_chain.specs.declared.error.ChainError.{ChainError}
-use Rattle.fs_chain.specs.declared.error.ChainError.TheVariants.{BadArgument, ShortBuffer}
+use Rattle.fs_chain.specs.declared.error.ChainError.TheVariants.{ShortBuffer}
 use Rattle.fs_chain.specs.declared.queue.QueueState.{QueueState}
 use Rattle.fs_chain.specs.declared.pushing.PushStores.{PushStores}
 use Rattle.fs_chain.specs.declared.state.ChainState.TheVariants as at
@@ -21,6 +21,7 @@ use Rattle.fs_chain.specs.declared.chain_handle.ChainHandle.{ChainHandle}
 use Rattle.fs_chain_c.specs.declared.queue.FsQueue.{FsQueue}
 use Rattle.fs_chain_c.specs.declared.pushing.FsStores.{FsStores}
 use Rattle.fs_chain_c.specs.Queues.{IsQueueState, IsQueue, flag, put}
+use Rattle.fs_chain_c.specs.Statuses.{queue_status}
 use Rattle.fs_chain_c.specs.Popping.{host_at}
 
 -- ---- the stores of a push
@@ -113,12 +114,12 @@ ReturnsPreserved b q k front reported status b' q' front' =
     × (q' ≡ q)
     × (front' ≡ front))
 
--- the same over a queue of C's; `BadArgument`, if the numbers aren't a queue's
+-- the same over a queue of C's; the status of the first cause, if the numbers aren't a queue's
 abbrev pub PushesHandle : ChainHandle → FsQueue → (front : List ℕ) → FsStores → (status : ℕ) → ChainHandle →
     FsQueue → (front' : List ℕ) → Type 0
 PushesHandle b q front reported status b' q' front' =
     ((IsQueue q → ⊥)
-    × (status ≡ chain_error_number BadArgument)
+    × (status ≡ queue_status q)
     × (reported ≡ no_stores)
     × (b' ≡ b)
     × (q' ≡ q)
@@ -128,9 +129,9 @@ PushesHandle b q front reported status b' q' front' =
 
 -- ---- the end of a push
 
--- nothing changes, and the status is this error's
-abbrev pub RefusesPush : ChainHandle → FsQueue → ChainError → (status : ℕ) → ChainHandle → FsQueue → Type 0
-RefusesPush b q e status b' q' = (status ≡ chain_error_number e) × (b' ≡ b) × (q' ≡ q)
+-- nothing changes, and this is the status
+abbrev pub RefusesPush : ChainHandle → FsQueue → (why status : ℕ) → ChainHandle → FsQueue → Type 0
+RefusesPush b q why status b' q' = (status ≡ why) × (b' ≡ b) × (q' ≡ q)
 
 -- the stores are made: the chain is freed, and the core's queue pushes its next chain at the next position;
 -- on an error nothing changes
@@ -142,12 +143,15 @@ EndsPreserved b q k seen notify status b' q' =
     × (notify ≡ flag (notifies_of k (to_le_bytes w16 seen)))
     × IsFreed b b'
     × (q' ≡ put q (gave k)))
-    ⊎ ((e : ChainError) × (end_error b.state k ≡ Some e) × (notify ≡ 0) × RefusesPush b q e status b' q')
+    ⊎ ((e : ChainError)
+    × (end_error b.state k ≡ Some e)
+    × (notify ≡ 0)
+    × RefusesPush b q (chain_error_number e) status b' q')
 
--- the same over a queue of C's; `BadArgument`, if the numbers aren't a queue's
+-- the same over a queue of C's; the status of the first cause, if the numbers aren't a queue's
 abbrev pub EndsHandlePush : ChainHandle → FsQueue → (seen notify status : ℕ) → ChainHandle → FsQueue → Type 0
 EndsHandlePush b q seen notify status b' q' =
-    ((IsQueue q → ⊥) × (notify ≡ 0) × RefusesPush b q BadArgument status b' q')
+    ((IsQueue q → ⊥) × (notify ≡ 0) × RefusesPush b q (queue_status q) status b' q')
     ⊎ (IsQueue q × (k : QueueState) × IsQueueState q k × EndsPreserved b q k seen notify status b' q')
 
 -- ---- a dropped chain
@@ -160,14 +164,16 @@ dropped b k = if is_out b.state then gave_up k else k
 abbrev pub DropsPreserved : ChainHandle → FsQueue → QueueState → (status : ℕ) → ChainHandle → FsQueue → Type 0
 DropsPreserved b q k status b' q' =
     ((give_up_error b.state k ≡ None) × (status ≡ 0) × IsFreed b b' × (q' ≡ put q (dropped b k)))
-    ⊎ ((e : ChainError) × (give_up_error b.state k ≡ Some e) × RefusesPush b q e status b' q')
+    ⊎ ((e : ChainError)
+    × (give_up_error b.state k ≡ Some e)
+    × RefusesPush b q (chain_error_number e) status b' q')
 
--- the same over a queue of C's; `BadArgument`, if the numbers aren't a queue's. If no chain is in flight, a
--- pop under way ends, and the queue's numbers don't matter
+-- the same over a queue of C's; the status of the first cause, if the numbers aren't a queue's. If no chain
+-- is in flight, a pop under way ends, and the queue's numbers don't matter
 abbrev pub DropsHandleChain : ChainHandle → FsQueue → (status : ℕ) → ChainHandle → FsQueue → Type 0
 DropsHandleChain b q status b' q' =
     ((is_out b.state ≡ false) × (status ≡ 0) × IsFreed b b' × (q' ≡ q))
-    ⊎ ((is_out b.state ≡ true) × (IsQueue q → ⊥) × RefusesPush b q BadArgument status b' q')
+    ⊎ ((is_out b.state ≡ true) × (IsQueue q → ⊥) × RefusesPush b q (queue_status q) status b' q')
     ⊎ ((is_out b.state ≡ true)
     × IsQueue q
     × (k : QueueState)

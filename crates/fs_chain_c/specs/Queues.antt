@@ -5,10 +5,9 @@ use Rattle.fs_queue.specs.Lawful.{layout_error}
 use Rattle.fs_queue.specs.Numbers.{queue_number}
 use Rattle.fs_queue.specs.declared.fault.QueueError.{QueueError}
 use Rattle.live_machine.specs.Several.{in_flight_between}
-use Rattle.fs_chain.specs.declared.error.ChainError.TheVariants.{BadArgument}
 use Rattle.fs_chain.specs.declared.queue.QueueState.{QueueState}
-use Rattle.fs_chain.specs.Numbers.{chain_error_number}
 use Rattle.fs_chain_c.specs.declared.queue.FsQueue.{FsQueue}
+use Rattle.fs_chain_c.specs.Statuses.{queue_status}
 
 -- the number of the refusal that stopped a queue: 2 to 8; 1 is one that a record doesn't keep; 0 is none
 abbrev pub stop_number : Option QueueError → ℕ
@@ -82,8 +81,9 @@ reset_to q position =
       stopped = 0;
     }
 
--- the queue is reset, if its numbers are a queue's then; else `BadArgument`, and nothing changes
+-- the queue is reset, if its numbers are a queue's then; else the status is that of the first cause, and
+-- nothing changes
 abbrev pub BeginsQueue : FsQueue → (position status : ℕ) → FsQueue → Type 0
 BeginsQueue q position status q' =
     (IsQueue (reset_to q position) × (status ≡ 0) × (q' ≡ reset_to q position))
-    ⊎ ((IsQueue (reset_to q position) → ⊥) × (status ≡ chain_error_number BadArgument) × (q' ≡ q))
+    ⊎ ((IsQueue (reset_to q position) → ⊥) × (status ≡ queue_status (reset_to q position)) × (q' ≡ q))

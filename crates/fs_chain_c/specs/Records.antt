@@ -7,7 +7,6 @@ use Rattle.fs_record.specs.Numbers.{restore_error_number}
 use Rattle.fs_record.specs.Record.{HasKnownBits, IsRecordFor, Second, record_bytes}
 use Rattle.fs_record.specs.Restoring.{LeavesSource, RefusesRecord}
 use Rattle.fs_record.specs.declared.error.RestoreError.{RestoreError}
-use Rattle.fs_chain.specs.declared.error.ChainError.{ChainError}
 use Rattle.fs_chain.specs.declared.error.ChainError.TheVariants.{BadArgument, ChainInFlight, OutOfMemory}
 use Rattle.fs_chain.specs.declared.error.ChainError.TheVariants.{ShortBuffer}
 use Rattle.fs_chain.specs.Numbers.{chain_error_number}
@@ -15,6 +14,9 @@ use Rattle.fs_chain_c.specs.declared.device.FsDevice.{FsDevice}
 use Rattle.fs_chain_c.specs.declared.queue.FsQueue.{FsQueue}
 use Rattle.fs_chain_c.specs.Memory.{IsDevice}
 use Rattle.fs_chain_c.specs.Queues.{IsQueue, chains_in_flight}
+use Rattle.fs_chain_c.specs.Statuses.{device_status, queue_status, refusal_status}
+use Rattle.fs_chain_c.specs.declared.status.Refusal.{Refusal}
+use Rattle.fs_chain_c.specs.declared.status.Refusal.TheVariants.{Of, Invalid}
 
 -- the queue that a record keeps of these numbers
 abbrev pub queue_of : FsQueue → Queue
@@ -35,59 +37,62 @@ abbrev pub CanSave : FsDevice → List FsQueue → Type 0
 CanSave d qs = IsDevice d × HasKnownBits d.options × (1 ≤ length qs) × (length qs ≤ 64) × All IsQueue qs
 
 -- why a record can't keep a queue: its numbers aren't a queue's, or a chain of it is in flight
-abbrev pub RefusesToSave : FsQueue → ChainError → Type 0
-RefusesToSave q BadArgument = IsQueue q → ⊥
-RefusesToSave q ChainInFlight = IsQueue q × (HasNoneOut q → ⊥)
+abbrev pub RefusesToSave : FsQueue → Refusal → Type 0
+RefusesToSave q (Invalid status) = (IsQueue q → ⊥) × (status ≡ queue_status q)
+RefusesToSave q (Of ChainInFlight) = IsQueue q × (HasNoneOut q → ⊥)
 RefusesToSave q _ = ⊥
 
--- why a record can't keep some queues: the error of the first that it can't keep
-pub record RefusesQueues (qs : List FsQueue) (e : ChainError) : Type 0 where
+-- why a record can't keep some queues: the reason of the first that it can't keep
+pub record RefusesQueues (qs : List FsQueue) (why : Refusal) : Type 0 where
   pub before : List FsQueue
   pub queue : FsQueue
   pub after : List FsQueue
   pub parts : qs ≡ before ++ queue ∷ after
   pub are : All IsQueue before
   pub none_out : All HasNoneOut before
-  pub why : RefusesToSave queue e
+  pub refused : RefusesToSave queue why
 
 -- the bytes of the record, of version 2
 abbrev pub bytes_of : FsDevice → List FsQueue → List ℕ
 bytes_of d qs = record_bytes (Second d.page_size d.limit) d.options (map queue_of qs)
 
--- the record is written to the front of a buffer, or an error is returned. Device, options and count are
--- checked first, then each queue in order, then memory, then the buffer's length
+-- the record is written to the front of a buffer, or it is refused. The device is checked first, then its
+-- options and the count of queues, then each queue in order, then memory, then the buffer's length
 abbrev pub SavesSo :
-    FsDevice → List FsQueue → (buffer : List ℕ) → Option ChainError → (len : ℕ) → (buffer' : List ℕ) → Type 0
+    FsDevice → List FsQueue → (buffer : List ℕ) → Option Refusal → (len : ℕ) → (buffer' : List ℕ) → Type 0
 SavesSo d qs buffer None len buffer' =
     CanSave d qs
     × All HasNoneOut qs
     × (len ≡ length (bytes_of d qs))
     × (buffer' ≡ bytes_of d qs ++ drop len buffer)
-SavesSo d qs buffer (Some ShortBuffer) len buffer' =
+SavesSo d qs buffer (Some (Of ShortBuffer)) len buffer' =
     CanSave d qs
     × All HasNoneOut qs
     × (len ≡ length (bytes_of d qs))
     × (length buffer < len)
     × (buffer' ≡ buffer)
-SavesSo d qs buffer (Some BadArgument) len buffer' =
-    ((CanSaveSome d (length qs) → ⊥) ⊎ (CanSaveSome d (length qs) × RefusesQueues qs BadArgument))
+SavesSo d qs buffer (Some (Invalid status)) len buffer' =
+    (((IsDevice d → ⊥) × (status ≡ device_status))
+    ⊎ (CanSaveSome d (length qs) × RefusesQueues qs (Invalid status)))
     × (len ≡ 0)
     × (buffer' ≡ buffer)
-SavesSo d qs buffer (Some ChainInFlight) len buffer' =
-    CanSaveSome d (length qs) × RefusesQueues qs ChainInFlight × (len ≡ 0) × (buffer' ≡ buffer)
-SavesSo d qs buffer (Some OutOfMemory) len buffer' =
+SavesSo d qs buffer (Some (Of BadArgument)) len buffer' =
+    IsDevice d × (CanSaveSome d (length qs) → ⊥) × (len ≡ 0) × (buffer' ≡ buffer)
+SavesSo d qs buffer (Some (Of ChainInFlight)) len buffer' =
+    CanSaveSome d (length qs) × RefusesQueues qs (Of ChainInFlight) × (len ≡ 0) × (buffer' ≡ buffer)
+SavesSo d qs buffer (Some (Of OutOfMemory)) len buffer' =
     CanSave d qs × All HasNoneOut qs × RoomWasRefused (length qs) × (len ≡ 0) × (buffer' ≡ buffer)
 SavesSo d qs buffer (Some _) len buffer' = ⊥
 
 -- the status of saving a record
-abbrev pub saved_status : Option ChainError → ℕ
+abbrev pub saved_status : Option Refusal → ℕ
 saved_status None = 0
-saved_status (Some e) = chain_error_number e
+saved_status (Some why) = refusal_status why
 
 abbrev pub Saves :
     FsDevice → List FsQueue → (buffer : List ℕ) → (status len : ℕ) → (buffer' : List ℕ) → Type 0
 Saves d qs buffer status len buffer' =
-    (how : Option ChainError) × (status ≡ saved_status how) × SavesSo d qs buffer how len buffer'
+    (how : Option Refusal) × (status ≡ saved_status how) × SavesSo d qs buffer how len buffer'
 
 -- ---- restoring a record
 
@@ -121,6 +126,26 @@ FitRecord olds qs =
     → slice_get qs k ≡ Some q
     → IsQueue (numbers_over old q)
 
+-- the first so many queues fit a record
+abbrev pub FitBefore : (olds : List FsQueue) → List Queue → (count : ℕ) → Type 0
+FitBefore olds qs n =
+    (k : ℕ) (old : FsQueue) (q : Queue)
+    → k < n
+    → slice_get olds k ≡ Some old
+    → slice_get qs k ≡ Some q
+    → IsQueue (numbers_over old q)
+
+-- the first queue that doesn't fit a record has this status
+pub record HasUnfit (olds : List FsQueue) (qs : List Queue) (status : ℕ) : Type 0 where
+  pub at : ℕ
+  pub old : FsQueue
+  pub queue : Queue
+  pub was : slice_get olds at ≡ Some old
+  pub is : slice_get qs at ≡ Some queue
+  pub before : FitBefore olds qs at
+  pub unfit : IsQueue (numbers_over old queue) → ⊥
+  pub why : status ≡ queue_status (numbers_over old queue)
+
 -- some bytes begin with a record that matches the device's page size and limit
 abbrev pub HasRecord : FsDevice → (saved : List ℕ) → (options : ℕ) → List Queue → Type 0
 HasRecord d saved options qs =
@@ -139,7 +164,7 @@ HasNoRecord d saved e =
 pub data RestoreOutcome : Type 0 where
   Restored : (options : ℕ) → List Queue → RestoreOutcome
   TooFewQueues : (options : ℕ) → List Queue → RestoreOutcome
-  UnfitQueues : (options : ℕ) → List Queue → RestoreOutcome
+  UnfitQueues : (options : ℕ) → List Queue → (status : ℕ) → RestoreOutcome
   NoRecord : RestoreError → RestoreOutcome
   NoDevice : RestoreOutcome
 
@@ -147,9 +172,9 @@ pub data RestoreOutcome : Type 0 where
 abbrev pub read_status : RestoreOutcome → ℕ
 read_status (Restored options qs) = 0
 read_status (TooFewQueues options qs) = chain_error_number ShortBuffer
-read_status (UnfitQueues options qs) = chain_error_number BadArgument
+read_status (UnfitQueues options qs status) = status
 read_status (NoRecord e) = 80 + restore_error_number e
-read_status NoDevice = chain_error_number BadArgument
+read_status NoDevice = device_status
 
 -- the effect of each: device and queues go on from the record, or don't change
 abbrev pub ReadsSo : FsDevice → List FsQueue → (saved : List ℕ) → RestoreOutcome → (count : ℕ) → FsDevice →
@@ -169,12 +194,12 @@ ReadsSo d queues saved (TooFewQueues options qs) count d' queues' =
     × (length queues < count)
     × (d' ≡ d)
     × (queues' ≡ queues)
-ReadsSo d queues saved (UnfitQueues options qs) count d' queues' =
+ReadsSo d queues saved (UnfitQueues options qs status) count d' queues' =
     IsDevice d
     × HasRecord d saved options qs
     × (count ≡ 0)
     × (length qs ≤ length queues)
-    × (FitRecord queues qs → ⊥)
+    × HasUnfit queues qs status
     × (d' ≡ d)
     × (queues' ≡ queues)
 ReadsSo d queues saved (NoRecord e) count d' queues' =

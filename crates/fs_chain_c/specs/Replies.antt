@@ -1,14 +1,15 @@
 -- The answers that C passes, and their outcomes.
-use Rattle.std.specs.Prelude.{◌≡◌, ◌⊎◌, ◌==◌, ◌&&◌, ◌||◌, ◌^◌, nat_lt, ℕ, Bool, List, Option, Some, None}
-use Rattle.std.specs.Prelude.{if◌then◌else◌}
+use Rattle.std.specs.Prelude.{◌≡◌, ◌⊎◌, ◌==◌, ◌&&◌, ◌||◌, ◌^◌, nat_lt, ℕ, Bool, true, false, List, Option}
+use Rattle.std.specs.Prelude.{Some, None, if◌then◌else◌}
 use Rattle.fuse_base.specs.declared.records.Attr.{Attr}
 use Rattle.fuse_fs.specs.declared.answers.Entry.{Entry}
 use Rattle.fuse_values.specs.declared.answer.FileAnswer.{FileAnswer}
 use Rattle.fuse_values.specs.declared.answer.FileAnswer.TheVariants as answer
 use Rattle.fs_chain.specs.declared.error.ChainError.{ChainError}
-use Rattle.fs_chain.specs.declared.error.ChainError.TheVariants.{BadArgument, WrongOrder}
+use Rattle.fs_chain.specs.declared.error.ChainError.TheVariants.{BadArgument, LongReply, WrongOrder}
 use Rattle.fs_chain.specs.declared.state.ChainState.TheVariants as at
 use Rattle.fs_chain.specs.Numbers.{chain_error_number}
+use Rattle.fs_chain.specs.Orders.{read_limit}
 use Rattle.fs_chain.specs.OwnReplies.{IfUnanswered, own_error, own_reply}
 use Rattle.fs_chain_c.specs.declared.answers.FsEntry.{FsEntry}
 use Rattle.fs_chain_c.specs.declared.answers.FsStatfs.{FsStatfs}
@@ -103,6 +104,28 @@ abbrev pub RepliesWith :
 RepliesWith a ticket before status after =
     OnHandle (λ b b'. AnswersHandle b ticket a status b') (status ≡ chain_error_number WrongOrder)
     before after
+
+-- whether an answer of so many bytes is to the READ in flight, and longer than that READ's data may be
+abbrev pub is_longer : Option ℕ → (is_mine : Bool) → (len : ℕ) → Bool
+is_longer None is_mine len = false
+is_longer (Some most) is_mine len = is_mine && nat_lt most len
+
+abbrev pub is_long : ChainHandle → (ticket len : ℕ) → Bool
+is_long b ticket len = is_longer (read_limit b.state) (b.serial == ticket) len
+
+-- a `ChainHandle`'s call is answered with data; `LongReply`, if it is a READ and there is too much data, and
+-- nothing changes
+abbrev pub AnswersData :
+    (is_long : Bool) → ChainHandle → (ticket len : ℕ) → (status : ℕ) → ChainHandle → Type 0
+AnswersData true b ticket len status b' = (status ≡ chain_error_number LongReply) × (b' ≡ b)
+AnswersData false b ticket len status b' = AnswersHandle b ticket (answer.Bytes len) status b'
+
+-- the same with a handle
+abbrev pub RepliesData :
+    (len ticket : ℕ) → Option ChainHandle → (status : ℕ) → Option ChainHandle → Type 0
+RepliesData len ticket before status after =
+    OnHandle (λ b b'. AnswersData (is_long b ticket len) b ticket len status b')
+    (status ≡ chain_error_number WrongOrder) before after
 
 -- INIT is answered, and the device has the agreed options then
 abbrev pub RepliesInit : (wanted ticket : ℕ) → Option ChainHandle → FsDevice → (status : ℕ) →

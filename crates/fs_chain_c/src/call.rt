@@ -67,8 +67,6 @@ pub struct FsCall {
     pub answer: u32,
     /// The opcode, as the guest wrote it.
     pub opcode: u32,
-    /// 0.
-    pub error: u32,
     /// Why there is no reply, if no call is made (PK_REQUEST_), or 0.
     pub fault: u32,
     /// The guest's unique number of the request.
@@ -180,7 +178,6 @@ const NO_CALL: FsCall = FsCall {
     kind: 0,
     answer: 0,
     opcode: 0,
-    error: 0,
     fault: 0,
     unique: 0,
     uid: 0,

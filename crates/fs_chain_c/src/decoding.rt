@@ -7,8 +7,9 @@ ghost use Rattle.fs_chain_c.specs.Decoding.{answer_unasked, fault_after};
 use crate::call::FsCall;
 use crate::device::FsDevice;
 use crate::fields::{call_fields, number};
+use crate::status::BAD_DEVICE;
 use bitflags::Flags;
-use fs_chain::{ChainError, ChainHandle, Decoded};
+use fs_chain::{ChainHandle, Decoded};
 use fuse_base::{Errno, FsOptions};
 use fuse_values::{FileAnswer, FileCall};
 use server_phases::Session;
@@ -114,7 +115,7 @@ pub fn decode_handle(
 {
     if !device.is_lawful() {
         *call = FsCall::none();
-        return u32::from(ChainError::BadArgument.number());
+        return BAD_DEVICE;
     }
     let options = FsOptions::from_bits_retain(device.options);
     let session = Session::resume(device.page_size, options);

@@ -6,10 +6,15 @@ ghost use Rattle.fs_chain.specs.declared.error.ChainError.TheVariants.{BadArgume
 ghost use Rattle.memory_requests.specs.Refused.{RoomWasRefused};
 ghost use Rattle.std.specs.List.Sorted.{IsNonDecreasingBy};
 ghost use Rattle.vm_memory.specs.Collecting.{fault_of};
-ghost use Rattle.fs_chain_c.specs.Memory.{HaveFault, IsMemory, IsNoMemory, IsNoSortedMemory, IsRegion};
-ghost use Rattle.fs_chain_c.specs.Memory.{StandApart, region_of};
+ghost use Rattle.fs_chain_c.specs.Memory.{HasNoRegion, HaveFault, IsMemory, IsNoMemory, IsNoSortedMemory};
+ghost use Rattle.fs_chain_c.specs.Memory.{IsRegion, StandApart, region_of};
+ghost use Rattle.fs_chain_c.specs.Statuses.{region_status};
 ghost use Rattle.fs_chain_c.specs.declared.memory.FsRegion.{FsRegion};
 
+use crate::status::{
+    BAD_REGION_END, BAD_REGION_GUEST, BAD_REGION_HOST, BAD_REGION_LEN, EMPTY_REGION,
+    REGIONS_OVERLAP, Refusal, TOO_MANY_REGIONS,
+};
 use arrayvec::ArrayVec;
 use fs_chain::ChainError;
 use fs_regions::{GuestRegions, MemoryRegion, RegionsError};
@@ -47,17 +52,34 @@ fn region_of(region: &FsRegion) -> Option<MemoryRegion>
     Some(made)
 }
 
-// Whether each of these is a region.
-fn are_regions(regions: &[FsRegion]) -> bool
-    ensures are { result ≡ true → All IsRegion regions.now }
-    ensures others { result ≡ false → All IsRegion regions.now → ⊥ }
+// The status of numbers that aren't a region's.
+fn region_status(region: &FsRegion) -> u32
+    ensures { result ≡ region_status region.now }
+{
+    if region.len == 0 {
+        EMPTY_REGION
+    } else if region.host % PAGE_SIZE != 0 {
+        BAD_REGION_HOST
+    } else if region.guest % PAGE_SIZE as u64 != 0 {
+        BAD_REGION_GUEST
+    } else if region.len % PAGE_SIZE as u64 != 0 {
+        BAD_REGION_LEN
+    } else {
+        BAD_REGION_END
+    }
+}
+
+// The status of the first of these that isn't a region; None if each is one.
+fn region_refusal(regions: &[FsRegion]) -> Option<u32>
+    ensures are { result ≡ None → All IsRegion regions.now }
+    ensures others { IfSome result (HasNoRegion regions.now) }
 {
     for region in regions {
         if region_of(region).is_none() {
-            return false;
+            return Some(region_status(region));
         }
     }
-    true
+    None
 }
 
 // The regions of these numbers, in the same order.
@@ -96,9 +118,9 @@ fn stand_apart(regions: &[FsRegion]) -> bool
     true
 }
 
-// The memory of regions that ascend: `BadArgument` if two have an address in common. That is checked before
-// any allocation.
-fn memory_of_sorted(alloc: Global, regions: &[FsRegion]) -> Result<GuestRegions, ChainError>
+// The memory of regions that ascend, if no two have an address in common. That is checked before any
+// allocation.
+fn memory_of_sorted(alloc: Global, regions: &[FsRegion]) -> Result<GuestRegions, Refusal>
     requires are { All IsRegion regions.now }
     ensures ok { IfOk result (λ memory. memory ≡ map region_of regions.now) }
     ensures apart { IfOk result (λ memory. StandApart memory) }
@@ -108,13 +130,16 @@ fn memory_of_sorted(alloc: Global, regions: &[FsRegion]) -> Result<GuestRegions,
         return Ok(GuestRegions::none(alloc));
     }
     if !stand_apart(regions) {
-        return Err(ChainError::BadArgument);
+        return Err(Refusal::Invalid(REGIONS_OVERLAP));
     }
-    let made = regions_of(alloc, regions)?;
+    let made = match regions_of(alloc, regions) {
+        Ok(made) => made,
+        Err(error) => return Err(Refusal::Of(error)),
+    };
     match GuestRegions::of_regions(alloc, made) {
         Ok(memory) => Ok(memory),
-        Err(RegionsError::OutOfMemory) => Err(ChainError::OutOfMemory),
-        Err(_) => Err(ChainError::BadArgument),
+        Err(RegionsError::OutOfMemory) => Err(Refusal::Of(ChainError::OutOfMemory)),
+        Err(_) => Err(Refusal::Invalid(REGIONS_OVERLAP)),
     }
 }
 
@@ -135,16 +160,16 @@ fn sorted(regions: &[FsRegion]) -> Option<ArrayVec<FsRegion, MOST_REGIONS>>
     Some(found)
 }
 
-/// The memory of some regions; `BadArgument` if they aren't a memory, or `OutOfMemory`.
-pub fn memory_of(alloc: Global, regions: &[FsRegion]) -> Result<GuestRegions, ChainError>
+/// The memory of some regions, or why there is none.
+pub fn memory_of(alloc: Global, regions: &[FsRegion]) -> Result<GuestRegions, Refusal>
     ensures ok { IfOk result (IsMemory regions.now) }
     ensures err { IfErr result (IsNoMemory regions.now) }
 {
-    if !are_regions(regions) {
-        return Err(ChainError::BadArgument);
+    if let Some(status) = region_refusal(regions) {
+        return Err(Refusal::Invalid(status));
     }
     match sorted(regions) {
         Some(sorted) => memory_of_sorted(alloc, sorted.as_slice()),
-        None => Err(ChainError::BadArgument),
+        None => Err(Refusal::Invalid(TOO_MANY_REGIONS)),
     }
 }

@@ -6,7 +6,7 @@ ghost use Rattle.fs_chain_c.specs.Notifications.{SetsNotification, no_store};
 use crate::popping::NOT_MAPPED;
 use crate::pushing::here;
 use crate::queue::FsQueue;
-use fs_chain::{ChainError, ChainHandle};
+use fs_chain::ChainHandle;
 use vm_memory_core::Permissions;
 
 /// A store of two bytes, or none.
@@ -39,10 +39,7 @@ pub fn set_notification(handle: &ChainHandle, queue: &FsQueue, enabled: u32) -> 
     ensures { SetsNotification handle.now queue.now enabled result.0 result.1 }
 {
     let Some(preserved) = queue.preserved() else {
-        return (
-            FsStore::nothing(),
-            u32::from(ChainError::BadArgument.number()),
-        );
+        return (FsStore::nothing(), queue.refusal());
     };
     let Some(store) = preserved.notification_store(enabled != 0) else {
         return (FsStore::nothing(), 0);

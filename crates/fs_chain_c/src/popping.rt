@@ -7,7 +7,7 @@ ghost use Rattle.fs_chain_c.specs.Popping.{PopsHandleAhead, host_at, no_step};
 
 use crate::access::access_number;
 use crate::queue::FsQueue;
-use fs_chain::{ChainError, ChainHandle, LoadOutcome, PopOutcome};
+use fs_chain::{ChainHandle, LoadOutcome, PopOutcome};
 use fs_regions::LoadAhead;
 use vm_memory_core::VolatileSlice;
 
@@ -26,7 +26,7 @@ pub const NOT_MAPPED: u32 = 77;
 /// A pop's result: a load, or a chain. All other fields are 0.
 #[repr(C)]
 #[derive(Clone, Copy)]
-pub struct FsPop {
+pub struct FsPopResult {
     /// The host address of the load.
     pub load_at: usize,
     /// How many bytes to load, at most PK_LOAD_MAX.
@@ -49,12 +49,12 @@ pub struct FsPop {
     pub miss_access: u32,
 }
 
-impl FsPop {
+impl FsPopResult {
     /// Neither a load nor a chain.
-    pub fn nothing() -> FsPop
+    pub fn nothing() -> FsPopResult
         ensures { result ≡ no_step }
     {
-        FsPop {
+        FsPopResult {
             load_at: 0,
             load_len: 0,
             request_len: 0,
@@ -77,11 +77,11 @@ pub fn host_at(window: &VolatileSlice) -> usize
 }
 
 // The load that a pop still needs, if any.
-fn still_wanted(handle: &ChainHandle, step: &mut FsPop)
+fn still_wanted(handle: &ChainHandle, step: &mut FsPopResult)
     ensures reported { ReportsWanted handle.now step.new }
     ensures few { step.new.load_len ≤ 4096 }
 {
-    *step = FsPop::nothing();
+    *step = FsPopResult::nothing();
     match handle.still_wanted() {
         Some(window) => {
             step.load_at = host_at(&window);
@@ -92,11 +92,11 @@ fn still_wanted(handle: &ChainHandle, step: &mut FsPop)
 }
 
 // The load that the pop still needs, and a status; nothing if its address isn't mapped.
-fn reported_load(handle: &ChainHandle, step: &mut FsPop) -> u32
+fn reported_load(handle: &ChainHandle, step: &mut FsPopResult) -> u32
     ensures reported { ReportsLoad handle.now step.new result }
     ensures few { step.new.load_len ≤ 4096 }
 {
-    *step = FsPop::nothing();
+    *step = FsPopResult::nothing();
     match handle.still_wanted() {
         Some(window) => {
             step.load_at = host_at(&window);
@@ -109,11 +109,11 @@ fn reported_load(handle: &ChainHandle, step: &mut FsPop) -> u32
 
 // A pop's result, as C gets it.
 #[inline(always)]
-fn reported(handle: &ChainHandle, outcome: LoadOutcome, step: &mut FsPop) -> u32
+fn reported(handle: &ChainHandle, outcome: LoadOutcome, step: &mut FsPopResult) -> u32
     ensures reported { ReportsOutcome handle.now outcome step.new result }
     ensures few { step.new.load_len ≤ 4096 }
 {
-    *step = FsPop::nothing();
+    *step = FsPopResult::nothing();
     match outcome {
         LoadOutcome::Part | LoadOutcome::On(PopOutcome::Load(_)) => reported_load(handle, step),
         LoadOutcome::On(PopOutcome::Idle) => IDLE,
@@ -150,14 +150,14 @@ pub fn pop_handle(
     handle: &mut ChainHandle,
     queue: &mut FsQueue,
     loaded: &[u8],
-    step: &mut FsPop,
+    step: &mut FsPopResult,
 ) -> u32
     ensures pops { PopsHandle handle.old queue.old loaded.now step.new result handle.new queue.new }
     ensures few { step.new.load_len ≤ 4096 }
 {
     let Some(mut preserved) = queue.begun() else {
-        *step = FsPop::nothing();
-        return u32::from(ChainError::BadArgument.number());
+        *step = FsPopResult::nothing();
+        return queue.unbegun();
     };
     match handle.pop(&mut preserved, loaded) {
         Ok(outcome) => {
@@ -178,15 +178,15 @@ pub fn pop_handle_ahead(
     queue: &mut FsQueue,
     ahead: &[LoadAhead],
     bytes: &[u8],
-    step: &mut FsPop,
+    step: &mut FsPopResult,
 ) -> u32
     ensures pops { PopsHandleAhead handle.old queue.old (loads_ahead ahead.now bytes.now) step.new result
         handle.new queue.new }
     ensures few { step.new.load_len ≤ 4096 }
 {
     let Some(mut preserved) = queue.begun() else {
-        *step = FsPop::nothing();
-        return u32::from(ChainError::BadArgument.number());
+        *step = FsPopResult::nothing();
+        return queue.unbegun();
     };
     match handle.pop_ahead(&mut preserved, ahead, bytes) {
         Ok(outcome) => {

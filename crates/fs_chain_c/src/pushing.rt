@@ -7,7 +7,7 @@ ghost use Rattle.fs_chain_c.specs.Pushing.{StandsHere, ReportsStores, no_stores}
 
 use crate::popping::NOT_MAPPED;
 use crate::queue::FsQueue;
-use fs_chain::{ChainError, ChainHandle, PushStores, QueueState};
+use fs_chain::{ChainHandle, PushStores, QueueState};
 use vm_memory_core::Permissions;
 
 /// The stores of a push, and a load after them, in this order.
@@ -150,7 +150,7 @@ pub fn push_handle(
         Some(preserved) => return_preserved(handle, queue, preserved, front, reported),
         None => {
             *reported = FsStores::nothing();
-            u32::from(ChainError::BadArgument.number())
+            queue.refusal()
         }
     }
 }
@@ -180,7 +180,7 @@ pub fn end_handle_push(handle: &mut ChainHandle, queue: &mut FsQueue, seen: u16)
 {
     match queue.preserved() {
         Some(preserved) => end_preserved(handle, queue, preserved, seen),
-        None => (0, u32::from(ChainError::BadArgument.number())),
+        None => (0, queue.refusal()),
     }
 }
 
@@ -209,6 +209,6 @@ pub fn drop_handle_chain(handle: &mut ChainHandle, queue: &mut FsQueue) -> u32
     }
     match queue.preserved() {
         Some(preserved) => drop_preserved(handle, queue, preserved),
-        None => u32::from(ChainError::BadArgument.number()),
+        None => queue.refusal(),
     }
 }

@@ -1,11 +1,16 @@
 //! Queues as numbers that C keeps.
 
 ghost use Rattle.std.specs.Prelude.{◌≡◌, ◌≤◌, ◌<◌, false, true, IfSome, IfNone, OnSome};
-ghost use Rattle.fs_chain_c.specs.Queues.{IsBegun, IsQueueState, IsQueue, reset_to, chains_in_flight, put};
+ghost use Rattle.fs_chain_c.specs.Queues.{BeginsQueue, IsBegun, IsQueueState, IsQueue, chains_in_flight, put};
 ghost use Rattle.fs_chain_c.specs.Queues.{stop_number};
+ghost use Rattle.fs_chain_c.specs.Statuses.{begun_status, queue_status};
 
+use crate::status::{
+    BAD_EVENT_INDEX, BAD_MAX_IN_FLIGHT, BAD_QUEUE_ALIGNMENT, BAD_QUEUE_END, BAD_QUEUE_SIZE,
+    BAD_QUEUE_STATE, QUEUE_NOT_BEGUN,
+};
 use fs_chain::QueueState;
-use fs_queue::{QueueError, QueueLayout};
+use fs_queue::{QueueError, QueueLayout, QueueLayoutError};
 
 /// A queue: numbers that C keeps.
 #[repr(C)]
@@ -122,6 +127,40 @@ impl FsQueue {
         Some(preserved)
     }
 
+    /// The status of numbers that aren't a queue's.
+    #[cold]
+    #[inline(never)]
+    pub fn refusal(&self) -> u32
+        ensures { result ≡ queue_status self.now }
+    {
+        match QueueLayout::new(self.size, self.desc, self.avail, self.used) {
+            Err(QueueLayoutError::BadSize) => BAD_QUEUE_SIZE,
+            Err(QueueLayoutError::Misaligned) => BAD_QUEUE_ALIGNMENT,
+            Err(QueueLayoutError::EndOverflow) => BAD_QUEUE_END,
+            Ok(_) => {
+                if self.max_in_flight > self.size {
+                    BAD_MAX_IN_FLIGHT
+                } else if self.event_index > 1 {
+                    BAD_EVENT_INDEX
+                } else {
+                    BAD_QUEUE_STATE
+                }
+            }
+        }
+    }
+
+    /// The status of numbers that aren't those of a queue that was begun.
+    #[cold]
+    #[inline(never)]
+    pub fn unbegun(&self) -> u32
+        ensures { result ≡ begun_status self.now }
+    {
+        match self.reset_count {
+            0 => QUEUE_NOT_BEGUN,
+            _ => self.refusal(),
+        }
+    }
+
     /// Writes the numbers that a call changed to C's queue.
     pub fn put(&mut self, preserved: &QueueState)
         ensures { self.new ≡ put self.old preserved.now }
@@ -134,10 +173,9 @@ impl FsQueue {
     }
 
     /// Resets the queue to a position, if its numbers are a queue's then: no chain of it is in flight.
-    pub fn begin(&mut self, position: u16) -> bool
-        ensures begun { result ≡ true
-            → IsQueue (reset_to self.old position) × (self.new ≡ reset_to self.old position) }
-        ensures none { result ≡ false → (IsQueue (reset_to self.old position) → ⊥) × (self.new ≡ self.old) }
+    /// Returns a status.
+    pub fn begin(&mut self, position: u16) -> u32
+        ensures { BeginsQueue self.old position result self.new }
     {
         let mut fresh = *self;
         fresh.next_avail = position;
@@ -146,9 +184,9 @@ impl FsQueue {
         fresh.reset_count = self.reset_count.wrapping_add(1);
         fresh.stopped = 0;
         if fresh.preserved().is_none() {
-            return false;
+            return fresh.refusal();
         }
         *self = fresh;
-        true
+        0
     }
 }

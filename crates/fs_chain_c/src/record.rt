@@ -7,13 +7,15 @@ ghost use Rattle.fs_chain.specs.declared.error.ChainError.TheVariants.{OutOfMemo
 ghost use Rattle.memory_requests.specs.Refused.{RoomWasRefused};
 ghost use Rattle.fs_record.specs.Record.{HasKnownBits};
 ghost use Rattle.fs_chain_c.specs.Queues.{IsQueue};
-ghost use Rattle.fs_chain_c.specs.Records.{FitRecord, HasNoneOut, RefusesToSave, RefusesQueues, Restores};
-ghost use Rattle.fs_chain_c.specs.Records.{SavesSo, numbers_over, queue_of, restored_over, saved_status};
+ghost use Rattle.fs_chain_c.specs.Records.{FitRecord, HasNoneOut, HasUnfit, RefusesToSave, RefusesQueues};
+ghost use Rattle.fs_chain_c.specs.Records.{Restores, SavesSo, numbers_over, queue_of, restored_over};
+ghost use Rattle.fs_chain_c.specs.Records.{saved_status};
 
 use crate::device::FsDevice;
 use crate::queue::FsQueue;
 use crate::record_place::record_of;
 use crate::saved_bytes::SavedBytes;
+use crate::status::{BAD_DEVICE, Refusal};
 use bitflags::Flags;
 use fs_chain::ChainError;
 use fs_queue::Queue;
@@ -36,7 +38,6 @@ fn queue_of(queue: &FsQueue) -> Result<Queue, ChainError>
     ensures bad { result ≡ Err BadArgument → IsQueue queue.now → ⊥ }
     ensures out { result ≡ Err ChainInFlight → HasNoneOut queue.now → ⊥ }
     ensures err { IfErr result (λ e. (e ≡ BadArgument) ⊎ (e ≡ ChainInFlight)) }
-    ensures why { IfErr result (RefusesToSave queue.now) }
 {
     let Some(preserved) = queue.preserved() else {
         return Err(ChainError::BadArgument);
@@ -47,19 +48,33 @@ fn queue_of(queue: &FsQueue) -> Result<Queue, ChainError>
     Ok(Queue::resume(preserved.layout, queue.next_avail, queue.stopped != 0))
 }
 
-// Whether a record can keep these queues: `BadArgument` or `ChainInFlight` of the first that it can't.
-fn check_queues(queues: &[FsQueue]) -> Result<(), ChainError>
-    ensures are { OnOk result (All IsQueue queues.now) }
-    ensures none_out { OnOk result (All HasNoneOut queues.now) }
-    ensures err { IfErr result (λ e. (e ≡ BadArgument) ⊎ (e ≡ ChainInFlight)) }
-    ensures why { IfErr result (RefusesQueues queues.now) }
+// Why a record can't keep a queue; None if it can.
+fn queue_refusal(queue: &FsQueue) -> Option<Refusal>
+    ensures is { result ≡ None → IsQueue queue.now }
+    ensures none_out { result ≡ None → HasNoneOut queue.now }
+    ensures refused { IfSome result (RefusesToSave queue.now) }
+{
+    if queue.preserved().is_none() {
+        return Some(Refusal::Invalid(queue.refusal()));
+    }
+    if queue.in_flight() > 0 {
+        return Some(Refusal::Of(ChainError::ChainInFlight));
+    }
+    None
+}
+
+// Why a record can't keep these queues: the reason of the first that it can't keep; None if it can.
+fn queues_refusal(queues: &[FsQueue]) -> Option<Refusal>
+    ensures are { result ≡ None → All IsQueue queues.now }
+    ensures none_out { result ≡ None → All HasNoneOut queues.now }
+    ensures refused { IfSome result (RefusesQueues queues.now) }
 {
     for queue in queues {
-        if let Err(error) = queue_of(queue) {
-            return Err(error);
+        if let Some(why) = queue_refusal(queue) {
+            return Some(why);
         }
     }
-    Ok(())
+    None
 }
 
 // The queues that a record keeps, in the same order.
@@ -104,38 +119,41 @@ pub fn save(
     device: &FsDevice,
     queues: &[FsQueue],
     buffer: &mut [u8],
-) -> (usize, Option<ChainError>)
+) -> (usize, Option<Refusal>)
     ensures { SavesSo device.now queues.now buffer.old result.1 result.0 buffer.new }
 {
-    if !device.is_lawful() || queues.is_empty() || queues.len() > MOST_QUEUES {
-        return (0, Some(ChainError::BadArgument));
+    if !device.is_lawful() {
+        return (0, Some(Refusal::Invalid(BAD_DEVICE)));
+    }
+    if queues.is_empty() || queues.len() > MOST_QUEUES {
+        return (0, Some(Refusal::Of(ChainError::BadArgument)));
     }
     let Some(options) = options_of(device.options) else {
-        return (0, Some(ChainError::BadArgument));
+        return (0, Some(Refusal::Of(ChainError::BadArgument)));
     };
-    if let Err(error) = check_queues(queues) {
-        return (0, Some(error));
+    if let Some(why) = queues_refusal(queues) {
+        return (0, Some(why));
     }
     let queues = match queues_of(alloc, queues) {
         Ok(queues) => queues,
-        Err(error) => return (0, Some(error)),
+        Err(error) => return (0, Some(Refusal::Of(error))),
     };
     let record = record_of(options, &queues, device.page_size, device.limit);
     let bytes = record.bytes.as_slice();
     let len = bytes.len();
     if len > buffer.len() {
-        return (len, Some(ChainError::ShortBuffer));
+        return (len, Some(Refusal::Of(ChainError::ShortBuffer)));
     }
     buffer[..len].copy_from_slice(bytes);
     (len, None)
 }
 
 /// The status of a saved record.
-pub fn saved_status(refused: Option<ChainError>) -> u32
+pub fn saved_status(refused: Option<Refusal>) -> u32
     ensures { result ≡ saved_status refused }
 {
     match refused {
-        Some(error) => u32::from(error.number()),
+        Some(why) => why.status(),
         None => 0,
     }
 }
@@ -171,19 +189,20 @@ fn put_queues(queues: &mut [FsQueue], restored: &[Queue])
     }
 }
 
-// Whether queues fit a record: no more chains may be in flight than each then has descriptors, and its
-// `event_index` is 0 or 1.
-fn fit_record(queues: &[FsQueue], restored: &[Queue]) -> bool
+// The status of the first queue that doesn't fit a record: more chains may be in flight than it then has
+// descriptors, or its `event_index` is neither 0 nor 1. None if each fits.
+fn unfit_status(queues: &[FsQueue], restored: &[Queue]) -> Option<u32>
     requires { length restored.now ≤ length queues.now }
-    ensures fit { result ≡ true → FitRecord queues.now restored.now }
-    ensures none { result ≡ false → FitRecord queues.now restored.now → ⊥ }
+    ensures fit { result ≡ None → FitRecord queues.now restored.now }
+    ensures unfit { IfSome result (HasUnfit queues.now restored.now) }
 {
     for k in 0..restored.len() {
-        if numbers_over(&queues[k], &restored[k]).preserved().is_none() {
-            return false;
+        let over = numbers_over(&queues[k], &restored[k]);
+        if over.preserved().is_none() {
+            return Some(over.refusal());
         }
     }
-    true
+    None
 }
 
 /// Reads a record into the device's options and the queues, and returns how many queues it has.
@@ -198,7 +217,7 @@ pub fn restore(
 {
     *count = 0;
     if !device.is_lawful() {
-        return u32::from(ChainError::BadArgument.number());
+        return BAD_DEVICE;
     }
     let mut source = SavedBytes(saved);
     match restore_record(alloc, &mut source, device.page_size, device.limit) {
@@ -207,8 +226,8 @@ pub fn restore(
                 *count = restored.len();
                 return u32::from(ChainError::ShortBuffer.number());
             }
-            if !fit_record(queues, &restored) {
-                return u32::from(ChainError::BadArgument.number());
+            if let Some(status) = unfit_status(queues, &restored) {
+                return status;
             }
             *count = restored.len();
             put_queues(queues, &restored);

@@ -1,6 +1,8 @@
 //! Answers that C passes, and their statuses.
 
-ghost use Rattle.fs_chain_c.specs.Replies.{MayReply, RepliesWith, RepliesOwn};
+ghost use Rattle.std.specs.Prelude.{◌≡◌};
+ghost use Rattle.fs_chain_c.specs.Replies.{AnswersData, MayReply, RepliesData, RepliesOwn, RepliesWith};
+ghost use Rattle.fs_chain_c.specs.Replies.{is_long};
 
 use crate::decoding::answer_handle;
 use crate::handle::FsChain;
@@ -29,6 +31,38 @@ pub fn may_reply(alloc: Global, chain: &mut FsChain, ticket: u32, said: Option<F
         Some(said) => reply(alloc, chain, ticket, said),
         None => u32::from(ChainError::BadArgument.number()),
     }
+}
+
+// Whether this answer is to a READ, and has more data than that can be answered with.
+fn is_long(handle: &ChainHandle, ticket: u32, len: usize) -> bool
+    ensures { result ≡ is_long handle.now ticket len }
+{
+    match handle.read_limit() {
+        Some(most) => handle.serial() == ticket && most < len,
+        None => false,
+    }
+}
+
+// Answers a handle's call with so many bytes of data, and returns a status.
+fn answer_data(handle: &mut ChainHandle, ticket: u32, len: usize) -> u32
+    ensures { AnswersData (is_long handle.old ticket len) handle.old ticket len result handle.new }
+{
+    if is_long(handle, ticket, len) {
+        return u32::from(ChainError::LongReply.number());
+    }
+    answer_handle(handle, ticket, FileAnswer::Bytes { len })
+}
+
+/// Answers the call of a handle's chain with so many bytes of data.
+pub fn reply_data(alloc: Global, chain: &mut FsChain, ticket: u32, len: usize) -> u32
+    ensures { RepliesData len ticket chain.old.held.value result chain.new.held.value }
+{
+    let Some(mut handle) = chain.take(alloc) else {
+        return wrong_order();
+    };
+    let status = answer_data(&mut handle, ticket, len);
+    *chain = FsChain::of_box(handle);
+    status
 }
 
 /// Answers with so many bytes that C wrote, and returns a status.

@@ -7,6 +7,7 @@ ghost use Rattle.fs_chain_c.specs.Handles.{RefusesNew, SetsHandle, NumbersHandle
 use crate::device::FsDevice;
 use crate::handle::FsChain;
 use crate::memory::{FsRegion, memory_of};
+use crate::status::{BAD_DEVICE, Refusal};
 use fs_chain::{ChainError, ChainHandle};
 use fs_regions::GuestMap;
 use memory_requests::boxed;
@@ -18,17 +19,20 @@ fn go_over(
     handle: &mut ChainHandle,
     device: &FsDevice,
     regions: &[FsRegion],
-) -> Result<(), ChainError>
+) -> Result<(), Refusal>
     ensures ok { OnOk result (ProceedsOver handle.old device.now regions.now handle.new) }
     ensures refused { IfErr result (RefusesMemory handle.old device.now regions.now) }
     ensures same { OnErr result (handle.new ≡ handle.old) }
 {
     if !device.is_lawful() {
-        return Err(ChainError::BadArgument);
+        return Err(Refusal::Invalid(BAD_DEVICE));
     }
     match memory_of(alloc, regions) {
-        Ok(memory) => handle.set_memory(GuestMap::of_regions(memory), device.limit),
-        Err(error) => Err(error),
+        Ok(memory) => match handle.set_memory(GuestMap::of_regions(memory), device.limit) {
+            Ok(()) => Ok(()),
+            Err(error) => Err(Refusal::Of(error)),
+        },
+        Err(refusal) => Err(refusal),
     }
 }
 
@@ -43,30 +47,28 @@ pub fn set_handle(
 {
     match go_over(alloc, handle, device, regions) {
         Ok(()) => 0,
-        Err(error) => u32::from(error.number()),
+        Err(refusal) => refusal.status(),
     }
 }
 
 // A new handle over these regions, with the device's limit.
-fn made(
-    alloc: Global,
-    device: &FsDevice,
-    regions: &[FsRegion],
-) -> Result<Box<ChainHandle>, ChainError>
+fn made(alloc: Global, device: &FsDevice, regions: &[FsRegion]) -> Result<Box<ChainHandle>, Refusal>
     ensures ok { IfOk result (λ made. (b : ChainHandle)
         × IsNewHandle b
         × ProceedsOver b device.now regions.now made.value) }
     ensures refused { IfErr result (RefusesNew device.now regions.now) }
 {
     if !device.is_lawful() {
-        return Err(ChainError::BadArgument);
+        return Err(Refusal::Invalid(BAD_DEVICE));
     }
     let memory = memory_of(alloc, regions)?;
     let mut handle = ChainHandle::new(alloc);
-    handle.set_memory(GuestMap::of_regions(memory), device.limit)?;
-    match boxed(alloc, handle) {
-        Ok(handle) => Ok(handle),
-        Err(_) => Err(ChainError::OutOfMemory),
+    match handle.set_memory(GuestMap::of_regions(memory), device.limit) {
+        Ok(()) => match boxed(alloc, handle) {
+            Ok(handle) => Ok(handle),
+            Err(_) => Err(Refusal::Of(ChainError::OutOfMemory)),
+        },
+        Err(error) => Err(Refusal::Of(error)),
     }
 }
 
@@ -80,7 +82,7 @@ pub fn make_handle(
 {
     match made(alloc, device, regions) {
         Ok(handle) => (Some(handle), 0),
-        Err(error) => (None, u32::from(error.number())),
+        Err(refusal) => (None, refusal.status()),
     }
 }
 

@@ -8,7 +8,7 @@ use crate::iotlb_handle::FsIotlb;
 use crate::memory::FsRegion;
 use crate::missing::FsMiss;
 use crate::notifications::FsStore;
-use crate::popping::FsPop;
+use crate::popping::FsPopResult;
 use crate::pushing::FsStores;
 use crate::queue::FsQueue;
 use crate::ranges::FsRange;
@@ -23,7 +23,7 @@ const _: () = prove!(size_of::<FsRegion>() == 24);
 
 const _: () = prove!(size_of::<FsChain>() == 16);
 
-const _: () = prove!(size_of::<FsPop>() == 72);
+const _: () = prove!(size_of::<FsPopResult>() == 72);
 
 const _: () = prove!(size_of::<LoadAhead>() == 16);
 
@@ -39,7 +39,7 @@ const _: () = prove!(size_of::<FsSpan>() == 8);
 
 const _: () = prove!(size_of::<FsAttr>() == 88);
 
-const _: () = prove!(size_of::<FsCall>() == 320);
+const _: () = prove!(size_of::<FsCall>() == 312);
 
 const _: () = prove!(size_of::<FsEntry>() == 128);
 

@@ -10,7 +10,7 @@ ghost use Rattle.fs_chain_c.specs.Ranges.{ReportsRanges};
 use fs_chain_c::device::FsDevice;
 use fs_chain_c::handle::FsChain;
 use fs_chain_c::memory::FsRegion;
-use fs_chain_c::popping::{FsPop, pop_handle, pop_handle_ahead};
+use fs_chain_c::popping::{FsPopResult, pop_handle, pop_handle_ahead};
 use fs_chain_c::pushing::{FsStores, drop_handle_chain, end_handle_push, push_handle};
 use fs_chain_c::queue::FsQueue;
 use fs_chain_c::ranges::{FsRange, fill_ranges};
@@ -21,12 +21,12 @@ use fs_regions::LoadAhead;
 use std::alloc::Global;
 
 /// The version of the interface (PK_VERSION): its major number by 65536, and its minor number.
-const VERSION: u32 = 0x10000;
+const VERSION: u32 = 0x20000;
 
 /// The version of the interface that the archive has.
 #[unsafe(no_mangle)]
 pub extern "C" fn pk_version() -> u32
-    ensures { result ≡ 65536 }
+    ensures { result ≡ 131072 }
 {
     VERSION
 }
@@ -82,14 +82,14 @@ pub extern "C" fn pk_pop(
     chain: &mut FsChain,
     queue: &mut FsQueue,
     loaded: &[u8],
-    pop: &mut FsPop,
+    pop: &mut FsPopResult,
 ) -> u32
     ensures pops { Pops chain.old.held.value queue.old loaded.now result pop.new chain.new.held.value
         queue.new }
     ensures few { pop.new.load_len ≤ 4096 }
 {
     let Some(mut handle) = chain.take(alloc) else {
-        *pop = FsPop::nothing();
+        *pop = FsPopResult::nothing();
         return wrong_order();
     };
     let status = pop_handle(&mut handle, queue, loaded, pop);
@@ -106,14 +106,14 @@ pub extern "C" fn pk_pop_ahead(
     queue: &mut FsQueue,
     ahead: &[LoadAhead],
     bytes: &[u8],
-    pop: &mut FsPop,
+    pop: &mut FsPopResult,
 ) -> u32
     ensures pops { PopsAheadOf chain.old.held.value queue.old (loads_ahead ahead.now bytes.now) result pop.new
         chain.new.held.value queue.new }
     ensures few { pop.new.load_len ≤ 4096 }
 {
     let Some(mut handle) = chain.take(alloc) else {
-        *pop = FsPop::nothing();
+        *pop = FsPopResult::nothing();
         return wrong_order();
     };
     let status = pop_handle_ahead(&mut handle, queue, ahead, bytes, pop);

@@ -88,7 +88,7 @@ pub extern "C" fn pk_chain_exchange_iotlb(
 
 /// Returns the first addresses of a gathered descriptor, from an address on, that the table doesn't map.
 #[unsafe(no_mangle)]
-pub extern "C" fn pk_miss(
+pub extern "C" fn pk_find_miss(
     alloc: Global,
     chain: &mut FsChain,
     index: usize,

@@ -4,7 +4,6 @@ ghost use Rattle.fs_chain_c.specs.Queues.{BeginsQueue};
 ghost use Rattle.fs_chain_c.specs.Records.{Restores, Saves};
 ghost use Rattle.fs_chain_c.specs.Notifications.{AsksKicks};
 
-use fs_chain::ChainError;
 use fs_chain_c::device::FsDevice;
 use fs_chain_c::handle::FsChain;
 use fs_chain_c::notifications::{FsStore, set_notification};
@@ -20,11 +19,7 @@ use std::alloc::Global;
 pub extern "C" fn pk_queue_begin_unnumbered(queue: &mut FsQueue, next_avail: u16) -> u32
     ensures { BeginsQueue queue.old next_avail result queue.new }
 {
-    if queue.begin(next_avail) {
-        0
-    } else {
-        u32::from(ChainError::BadArgument.number())
-    }
+    queue.begin(next_avail)
 }
 
 /// The store that enables (1) or disables (0) notifications of a queue, over a handle's regions.

@@ -2,7 +2,8 @@
 
 ghost use Rattle.fuse_values.specs.declared.answer.FileAnswer.TheVariants as answer;
 ghost use Rattle.std.specs.Prelude.{◌≡◌};
-ghost use Rattle.fs_chain_c.specs.Replies.{AsksChain, MayReply, RepliesWith, RepliesBytes, RepliesInit};
+ghost use Rattle.fs_chain_c.specs.Replies.{AsksChain, MayReply, RepliesBytes, RepliesData, RepliesInit};
+ghost use Rattle.fs_chain_c.specs.Replies.{RepliesWith};
 ghost use Rattle.fs_chain_c.specs.Replies.{attr_said, create_said, entry_of, entry_said, open_said};
 ghost use Rattle.fs_chain_c.specs.Replies.{statfs_said};
 ghost use Rattle.fs_chain_c.specs.Calls.{flag};
@@ -18,7 +19,7 @@ use fs_chain_c::decoding::{NO_ROOM, answer_handle, decode_handle};
 use fs_chain_c::device::FsDevice;
 use fs_chain_c::handle::FsChain;
 use fs_chain_c::names::is_name;
-use fs_chain_c::replies::{may_reply, reply, reply_own};
+use fs_chain_c::replies::{may_reply, reply, reply_data, reply_own};
 use fs_chain_c::status::wrong_order;
 use fuse_values::FileAnswer;
 use std::alloc::Global;
@@ -121,10 +122,9 @@ pub extern "C" fn pk_reply_open(
 /// Answers a call with data: so many bytes, which lie in the reply buffer behind the header.
 #[unsafe(no_mangle)]
 pub extern "C" fn pk_reply_data(alloc: Global, chain: &mut FsChain, ticket: u32, len: u64) -> u32
-    ensures { RepliesWith (answer.Bytes len) ticket chain.old.held.value result chain.new.held.value }
+    ensures { RepliesData len ticket chain.old.held.value result chain.new.held.value }
 {
-    let len = len as usize;
-    reply(alloc, chain, ticket, FileAnswer::Bytes { len })
+    reply_data(alloc, chain, ticket, len as usize)
 }
 
 /// Answers GETXATTR and LISTXATTR with size 0: how many bytes there are.

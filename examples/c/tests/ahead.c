@@ -43,11 +43,11 @@ static bool may_end;             /* rings may go over the end of the memory */
 /* The program gets the calls of pk_pop, and counts them: pk_pop_ring makes some. */
 static size_t pop_calls;
 uint32_t __real_pk_pop(struct pk_chain *chain, struct pk_queue *queue, const uint8_t *loaded,
-                       size_t loaded_len, struct pk_pop *pop);
+                       size_t loaded_len, struct pk_pop_result *pop);
 uint32_t __wrap_pk_pop(struct pk_chain *chain, struct pk_queue *queue, const uint8_t *loaded,
-                       size_t loaded_len, struct pk_pop *pop);
+                       size_t loaded_len, struct pk_pop_result *pop);
 uint32_t __wrap_pk_pop(struct pk_chain *chain, struct pk_queue *queue, const uint8_t *loaded,
-                       size_t loaded_len, struct pk_pop *pop) {
+                       size_t loaded_len, struct pk_pop_result *pop) {
     pop_calls++;
     return __real_pk_pop(chain, queue, loaded, loaded_len, pop);
 }
@@ -134,7 +134,7 @@ static void make_handle(struct pk_chain *chain) {
 
 /* Pops load by load, and notes the loads. */
 static uint32_t pop_noting(struct pk_chain *chain, struct pk_queue *queue, struct loads *loads,
-                           struct pk_pop *pop) {
+                           struct pk_pop_result *pop) {
     uint8_t *bytes = loads->bytes;
     uint32_t status = pk_pop(chain, queue, bytes, 0, pop);
     loads->count = loads->len = 0;
@@ -168,7 +168,7 @@ static void spoil(struct loads *loads, size_t from, uint64_t way) {
 }
 
 static void compare_windows(struct pk_chain *chain, struct pk_chain *other,
-                            const struct pk_pop *pop) {
+                            const struct pk_pop_result *pop) {
     struct pk_window mine[2][ENTRIES + SIZE], theirs[2][ENTRIES + SIZE];
     for (int write = 0; write < 2; write++) {
         size_t most = ENTRIES + SIZE, count, same;
@@ -183,8 +183,8 @@ static void compare_windows(struct pk_chain *chain, struct pk_chain *other,
 }
 
 static void compare(struct pk_chain *chain, struct pk_chain *other, const struct pk_queue *queue,
-                    const struct pk_queue *second, const struct pk_pop *pop,
-                    const struct pk_pop *step) {
+                    const struct pk_queue *second, const struct pk_pop_result *pop,
+                    const struct pk_pop_result *step) {
     expect("the head", step->head, pop->head);
     expect("the fault", step->fault, pop->fault);
     expect("the request", step->request_len, pop->request_len);
@@ -199,7 +199,7 @@ static void compare(struct pk_chain *chain, struct pk_chain *other, const struct
 
 /* Pops by a list, and goes on load by load. Returns by how many calls. */
 static size_t pop_by_list(struct pk_chain *chain, struct pk_queue *queue, const struct loads *loads,
-                          struct pk_pop *pop, uint32_t *status) {
+                          struct pk_pop_result *pop, uint32_t *status) {
     uint8_t bytes[PK_LOAD_MAX];
     size_t calls = 1;
     *status = pk_pop_ahead(chain, queue, loads->ahead, loads->count, loads->bytes, loads->len, pop);
@@ -241,7 +241,7 @@ static void try_one(void) {
     static struct loads loads, list;
     struct pk_queue queue, second, third;
     struct pk_chain chain, other, ringing;
-    struct pk_pop pop, step;
+    struct pk_pop_result pop, step;
     struct pk_ring ring = {0};
     uint32_t status, found;
     uint16_t next_avail = (uint16_t)below(0x10000);
@@ -296,7 +296,7 @@ static void lack_one(void) {
     static struct loads loads, own;
     struct pk_queue whole, queue, second;
     struct pk_chain chains[3];
-    struct pk_pop pop, step;
+    struct pk_pop_result pop, step;
     uint32_t status, found, its_access = (uint32_t)below(5);
     size_t odd = below(MEMORY / PAGE);
     uint16_t next_avail = (uint16_t)below(0x10000);
@@ -324,7 +324,7 @@ static void cut_memory(void) {
     const size_t cut = TABLE + PAGE;
     struct pk_queue whole, queue, second;
     struct pk_chain all, chain, other;
-    struct pk_pop pop, step;
+    struct pk_pop_result pop, step;
     uint32_t status, found;
     uint16_t next_avail = (uint16_t)below(0x10000);
     indirect = cut - 16 * (1 + below(16));
@@ -356,7 +356,7 @@ static void refuses(void) {
     static struct loads loads;
     struct pk_queue queue = fresh, second = fresh, before;
     struct pk_chain chain, other, zeros = {0};
-    struct pk_pop pop;
+    struct pk_pop_result pop;
     memset(memory, 0, MEMORY);
     lay_entry(DESC, BUFFERS, 40, NEXT, 1);
     lay_entry(DESC + 16, BUFFERS + 64, 16, WRITE, 0);
@@ -382,10 +382,10 @@ static void refuses(void) {
            PK_CHAIN_IN_FLIGHT);
     second = (struct pk_queue){0};
     expect("zeros", pk_pop_ahead(&other, &second, loads.ahead, 3, loads.bytes, loads.len, &pop),
-           PK_BAD_ARGUMENT);
+           PK_QUEUE_NOT_BEGUN);
     second = fresh, second.reset_count = 0;
     expect("not begun", pk_pop_ahead(&other, &second, loads.ahead, 3, loads.bytes, loads.len, &pop),
-           PK_BAD_ARGUMENT);
+           PK_QUEUE_NOT_BEGUN);
     expect("no load of it", pop.load_len, 0);
     second = fresh, second.stopped = 3;
     expect("stopped", pk_pop_ahead(&other, &second, loads.ahead, 3, loads.bytes, loads.len, &pop),

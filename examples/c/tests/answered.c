@@ -231,8 +231,8 @@ static void by_open(uint32_t ticket) {
 static void by_data(uint32_t ticket) {
     uint64_t len =
         below(6) ? below(room + 1) : ONE_OF(room, call.data_len, call.data_len + 1, chance());
-    bool fits = row->answer == PK_ANSWER_DATA && (row->opcode != READ || len <= call.data_len);
-    uint32_t expected = status_of(false, ticket, fits);
+    uint32_t expected = status_of(false, ticket, row->answer == PK_ANSWER_DATA);
+    if (expected == PK_DONE && row->opcode == READ && len > call.data_len) expected = PK_LONG_REPLY;
     begin_reply();
     if (expected == PK_DONE && len > room) {
         is_answered = true, front = 0, wanted_len = 0, expected = PK_NO_ROOM;
@@ -435,7 +435,7 @@ static size_t offer(void) {
 
 static void pop(void) {
     static uint8_t bytes[PK_LOAD_MAX];
-    struct pk_pop step = {0};
+    struct pk_pop_result step = {0};
     uint32_t status;
     while ((status = pk_pop(&chain, &queue, bytes, step.load_len, &step)) == PK_LOAD)
         memcpy(bytes, (const void *)step.load_at, step.load_len);

@@ -39,7 +39,7 @@ struct bench {
     bool replied;                   /* it has a reply of the author's own bytes, */
     uint64_t replied_len;           /* so many of them */
     uint32_t ticket;
-    struct pk_pop step;
+    struct pk_pop_result step;
     struct pk_call call;
     uint8_t *request;
 };
@@ -221,7 +221,7 @@ static uint32_t do_walk(struct bench *b, struct pk_queue *queue) {
     static uint8_t bytes[PK_LOAD_MAX];
     size_t len = below(30) ? b->step.load_len : (size_t)ONE_OF(16, below(PK_LOAD_MAX + 1));
     struct pk_queue before = *queue;
-    struct pk_pop step;
+    struct pk_pop_result step;
     if (len == b->step.load_len && len > 0 && is_told(b, b->step.load_at, len))
         memcpy(bytes, (const void *)b->step.load_at, len);
     if (below(500) == 0)
@@ -256,12 +256,12 @@ static void do_drop(struct bench *b, struct pk_queue *queue) {
     check_same(status, &before, queue);
     if (status == PK_DONE && memcmp(&before, queue, sizeof before) != 0 && out_of(queue) != out - 1)
         wrong("a chain is dropped elsewhere", out_of(queue));
-    b->step = (struct pk_pop){0};
+    b->step = (struct pk_pop_result){0};
 }
 
 static void do_abandon(struct bench *b) {
     pk_abandon(&b->chain);
-    b->step = (struct pk_pop){0};
+    b->step = (struct pk_pop_result){0};
     calls++;
 }
 

@@ -168,7 +168,7 @@ static void lay_request(const struct row *row) {
 
 static void serve_next(const struct row *row, struct pk_chain *chains, struct pk_queue *queue,
                        const struct pk_device *device) {
-    struct pk_pop steps[MOST_OUT];
+    struct pk_pop_result steps[MOST_OUT];
     struct pk_call call;
     uint8_t request[PK_FIRST];
     bool notify = false;

@@ -68,7 +68,7 @@ static void offer(const struct pk_queue *queue, uint32_t opcode, uint32_t len, u
     put(queue->avail + 2, index + 1u, 2);
 }
 
-static uint32_t pop(struct pk_chain *chain, struct pk_queue *queue, struct pk_pop *step) {
+static uint32_t pop(struct pk_chain *chain, struct pk_queue *queue, struct pk_pop_result *step) {
     static uint8_t bytes[PK_LOAD_MAX]; /* with a sanitizer a longer load is a fault */
     uint32_t status;
     memset(step, 0, sizeof *step);
@@ -82,7 +82,7 @@ static uint32_t pop(struct pk_chain *chain, struct pk_queue *queue, struct pk_po
 
 /* A handle that has popped and decoded a request of a queue. Returns its ticket. */
 static uint32_t ask(struct pk_chain *chain, struct pk_queue *queue) {
-    struct pk_pop step;
+    struct pk_pop_result step;
     struct pk_call call;
     offer(queue, GETATTR, 56, 0x100);
     expect("the memory", pk_chain_set_memory(chain, &device, &region, 1), PK_DONE);
@@ -192,12 +192,12 @@ static void with_equal_addresses(void) {
 /* A queue that was never begun isn't popped, and nothing changes. */
 static void never_begun(void) {
     struct pk_chain chain = {0};
-    struct pk_pop step;
+    struct pk_pop_result step;
     lay_out(NEXT);
     offer(&queues[0], GETATTR, 56, 0x100);
     struct pk_queue before = queues[0];
     expect("the memory", pk_chain_set_memory(&chain, &device, &region, 1), PK_DONE);
-    expect("the pop", pop(&chain, &queues[0], &step), PK_BAD_ARGUMENT);
+    expect("the pop", pop(&chain, &queues[0], &step), PK_QUEUE_NOT_BEGUN);
     expect("its load", step.load_at | step.load_len, 0);
     expect("the queue", (uint64_t)memcmp(&before, &queues[0], sizeof before), 0);
     expect("the handle", pk_chain_state(&chain), PK_STATE_FREE);
@@ -212,9 +212,11 @@ static void restores_valid_queues(void) {
         uint16_t max_in_flight;
         uint8_t event_index;
         uint32_t status;
-    } rows[] = {{SIZE + 1, 0, PK_BAD_ARGUMENT}, {100, 1, PK_BAD_ARGUMENT}, {4, 2, PK_BAD_ARGUMENT},
-                {0xffff, 3, PK_BAD_ARGUMENT},   {4, 3, PK_BAD_ARGUMENT},   {4, 9, PK_BAD_ARGUMENT},
-                {SIZE, 1, PK_DONE},             {0, 0, PK_DONE},           {1, 1, PK_DONE}};
+    } rows[] = {{SIZE + 1, 0, PK_BAD_MAX_IN_FLIGHT}, {100, 1, PK_BAD_MAX_IN_FLIGHT},
+                {4, 2, PK_BAD_EVENT_INDEX},          {0xffff, 3, PK_BAD_MAX_IN_FLIGHT},
+                {4, 3, PK_BAD_EVENT_INDEX},          {4, 9, PK_BAD_EVENT_INDEX},
+                {SIZE, 1, PK_DONE},                  {0, 0, PK_DONE},
+                {1, 1, PK_DONE}};
     uint8_t record[32 + 32 * PAIR];
     size_t len, count;
     begin_both(NEXT);
@@ -240,7 +242,7 @@ static void restores_valid_queues(void) {
 
 /* The driver asks for the entries of a directory, of 0x80 bytes at most. */
 static uint32_t ask_entries(struct pk_chain *chain) {
-    struct pk_pop step;
+    struct pk_pop_result step;
     struct pk_call call;
     begin_both(NEXT);
     expect("the memory", pk_chain_set_memory(chain, &device, &region, 1), PK_DONE);
@@ -279,7 +281,7 @@ static void entries(void) {
 
 /* A table of 256 entries or more is loaded by PK_LOAD_MAX bytes at once, and never by more. */
 static void loads_of(struct pk_chain *chain, unsigned count) {
-    struct pk_pop step;
+    struct pk_pop_result step;
     struct pk_queue queue = {.desc = 0, .avail = LONG_AVAIL, .used = LONG_USED, .size = LONG};
     memset(memory, 0, MEMORY);
     expect("a queue begins", pk_queue_begin(&queue, 0), PK_DONE);

@@ -173,7 +173,7 @@ static void store(size_t at, uint64_t value, size_t len) { memcpy(memory + at, &
 
 static void pop(void) {
     static uint8_t bytes[PK_LOAD_MAX];
-    struct pk_pop step;
+    struct pk_pop_result step;
     size_t len = 0;
     uint32_t status;
     store(0, REQUEST, 8);

@@ -1,6 +1,6 @@
 /* A program runs with each later library of its major number: the library writes the fields that
- * this header has, and no byte behind them. tools/grown runs it with a library whose struct pk_pop
- * has one more. */
+ * this header has, and no byte behind them. tools/grown runs it with a library whose struct
+ * pk_pop_result has one more. */
 #include <pitskhomu.h>
 #include <stdio.h>
 #include <stdlib.h>
@@ -19,7 +19,7 @@ static struct pk_device device = PK_DEVICE;
 static struct pk_queue queue = {.desc = DESC, .avail = AVAIL, .used = USED, .size = SIZE};
 static struct pk_chain chain;
 static struct pk_iotlb iotlb;
-static GUARDED(pk_pop) pop;
+static GUARDED(pk_pop_result) pop;
 static GUARDED(pk_call) call;
 static GUARDED(pk_stores) stores;
 static GUARDED(pk_store) store;
@@ -37,7 +37,7 @@ static void check(const char *what, const uint8_t *guard) {
 }
 
 static void check_all(void) {
-    check("a byte behind struct pk_pop", pop.guard);
+    check("a byte behind struct pk_pop_result", pop.guard);
     check("a byte behind struct pk_call", call.guard);
     check("a byte behind struct pk_stores", stores.guard);
     check("a byte behind struct pk_store", store.guard);
@@ -104,7 +104,7 @@ static void look_for_misses(void) {
     expect("a pop by an empty table", pop_one(0), PK_MISS);
     expect("what it misses", pop.it.miss_access, PK_ACCESS_READ);
     expect("the ring's page", pop.it.miss_at / 4096 * 4096, AVAIL);
-    expect("the misses of no buffer", pk_miss(&chain, 0, 0, &miss.it), PK_IDLE);
+    expect("the misses of no buffer", pk_find_miss(&chain, 0, 0, &miss.it), PK_IDLE);
     check_all();
 }
 

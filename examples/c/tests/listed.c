@@ -24,7 +24,7 @@ struct list {
 /* Two handles that do the same: `ahead` by lists, `one` load by load. */
 struct pair {
     struct pk_chain ahead, one;
-    struct pk_pop pop;
+    struct pk_pop_result pop;
 };
 
 static struct pk_device device = PK_DEVICE;
@@ -69,7 +69,7 @@ static void compare_windows(struct pair *pair, uint64_t from, uint64_t len) {
     expect("the reply's", memcmp(c, d, n * sizeof *c) != 0, 0);
 }
 
-static void compare_pops(const struct pk_pop *a, const struct pk_pop *b) {
+static void compare_pops(const struct pk_pop_result *a, const struct pk_pop_result *b) {
     expect("the load", a->load_at, b->load_at);
     expect("its length", a->load_len, b->load_len);
     expect("the request", a->request_len, b->request_len);
@@ -96,8 +96,8 @@ static void compare_misses(struct pair *pair) {
         uint64_t from = 0;
         for (unsigned n = 0; n < 4; n++) {
             struct pk_miss a = {0, 0, 0}, b = {0, 0, 0};
-            status = pk_miss(&pair->ahead, index, from, &a);
-            expect("pk_miss", pk_miss(&pair->one, index, from, &b), status);
+            status = pk_find_miss(&pair->ahead, index, from, &a);
+            expect("pk_miss", pk_find_miss(&pair->one, index, from, &b), status);
             expect("where", a.at, b.at);
             expect("how long", a.len, b.len);
             expect("by what", a.access, b.access);
@@ -119,7 +119,7 @@ static struct list make_list(size_t count, size_t len) {
 static struct list list_of(struct pair *pair) {
     static uint8_t bytes[LIST_BYTES];
     struct pk_queue queue = one_queue;
-    struct pk_pop pop;
+    struct pk_pop_result pop;
     size_t count = 0, len = 0;
     uint32_t status = pk_pop(&pair->one, &queue, request, 0, &pop);
     while (status == PK_LOAD && count < MOST_LOADS && len + pop.load_len <= sizeof bytes) {
@@ -216,7 +216,8 @@ static void abandon(struct pair *pair) {
     pk_abandon(&pair->one);
 }
 
-static bool is_next(const struct list *list, size_t k, size_t used, const struct pk_pop *pop) {
+static bool is_next(const struct list *list, size_t k, size_t used,
+                    const struct pk_pop_result *pop) {
     return k < list->count && list->ahead[k].at == pop->load_at &&
            list->ahead[k].len == pop->load_len && pop->load_len <= list->len - used;
 }
@@ -224,7 +225,7 @@ static bool is_next(const struct list *list, size_t k, size_t used, const struct
 /* The second handle pops by the bytes of a list, at most `most` of its loads. Returns how many it
  * took. */
 static size_t pop_one_by_one(struct pair *pair, const struct list *list, size_t most,
-                             uint32_t *status, struct pk_pop *pop, size_t *used) {
+                             uint32_t *status, struct pk_pop_result *pop, size_t *used) {
     size_t k = 0;
     *used = 0;
     *status = pk_pop(&pair->one, &one_queue, request, 0, pop);
@@ -240,8 +241,8 @@ static size_t pop_one_by_one(struct pair *pair, const struct list *list, size_t 
 /* The first handle may have stopped before a load that it could take, since its descriptors lacked
  * room, or the bytes lay in two regions. Then the second one stops there, too. */
 static size_t stop_there(struct pair *pair, const struct list *list, size_t k, uint32_t ticket,
-                         const struct pk_queue *before, const struct pk_pop *wanted,
-                         uint32_t *status, struct pk_pop *pop, size_t *used) {
+                         const struct pk_queue *before, const struct pk_pop_result *wanted,
+                         uint32_t *status, struct pk_pop_result *pop, size_t *used) {
     while (k > 0 && (asked[k - 1].at != wanted->load_at || asked[k - 1].len != wanted->load_len))
         k--;
     expect("its load is one of the pop's", k > 0, 1);
@@ -254,16 +255,17 @@ static size_t stop_there(struct pair *pair, const struct list *list, size_t k, u
 
 /* Whether a pop that took `k` loads asks for one that it asked for before: a chain may have a loop.
  * Then a result doesn't tell how many of the list's loads were taken. */
-static bool is_repeated(size_t k, const struct pk_pop *pop) {
+static bool is_repeated(size_t k, const struct pk_pop_result *pop) {
     for (size_t n = 0; n < k; n++)
         if (asked[n].at == pop->load_at && asked[n].len == pop->load_len) return true;
     return false;
 }
 
 /* Both go on by one load. Returns whether the pop goes on. */
-static bool go_on(struct pair *pair, uint32_t *status, struct pk_pop *pop, const uint8_t *listed) {
+static bool go_on(struct pair *pair, uint32_t *status, struct pk_pop_result *pop,
+                  const uint8_t *listed) {
     uint8_t *bytes = load_end - pop->load_len;
-    struct pk_pop other;
+    struct pk_pop_result other;
     expect("the load is mapped", is_mapped(pop->load_at, pop->load_len), 1);
     memcpy(bytes, listed ? listed : (const void *)pop->load_at, pop->load_len);
     if (below(40) == 0) scribble(&one_queue);
@@ -293,7 +295,7 @@ static void count_pop(struct pair *pair, uint32_t status, bool was_whole) {
 
 static void pop_by(struct pair *pair, const struct list *list) {
     struct pk_queue before = one_queue;
-    struct pk_pop one;
+    struct pk_pop_result one;
     uint32_t ticket = (uint32_t)chance(), status, found;
     size_t used;
     expect("a ticket", pk_chain_set_ticket(&pair->ahead, ticket), PK_DONE);
@@ -344,7 +346,7 @@ static void pop_by_ring(struct pair *pair) {
                    ring.index != ahead_queue.next_avail;
     uint16_t index = ring.index;
     uint32_t ticket = (uint32_t)chance(), status;
-    struct pk_pop pop;
+    struct pk_pop_result pop;
     lend(pair);
     expect("a ticket", pk_chain_set_ticket(&pair->ahead, ticket), PK_DONE);
     expect("a ticket", pk_chain_set_ticket(&pair->one, ticket), PK_DONE);
@@ -367,7 +369,7 @@ static void pop_by_ring(struct pair *pair) {
 /* A pop by a list is refused where none may begin, and changes nothing. */
 static void pop_wrongly(struct pair *pair) {
     struct pk_queue before = ahead_queue, bad = ahead_queue;
-    struct pk_pop pop, other;
+    struct pk_pop_result pop, other;
     uint32_t state = pk_chain_state(&pair->one);
     struct list list = make_list(below(MOST_LOADS), below(LIST_BYTES));
     if (state != PK_STATE_FREE) {
@@ -379,9 +381,10 @@ static void pop_wrongly(struct pair *pair) {
     }
     expect("the queue as before", memcmp(&ahead_queue, &before, QUEUE_LEN) != 0, 0);
     bad.size = (uint16_t)ONE_OF(0, 3, 0x8001, bad.size), bad.event_index = 2;
+    uint32_t is_bad = bad.size == ahead_queue.size ? PK_BAD_EVENT_INDEX : PK_BAD_QUEUE_SIZE;
     expect("no queue", pk_pop_ahead(&pair->ahead, &bad, list.ahead, list.count, list.bytes,
-                                    list.len, &pop), PK_BAD_ARGUMENT);
-    expect("no queue", pk_pop(&pair->one, &bad, request, 0, &other), PK_BAD_ARGUMENT);
+                                    list.len, &pop), is_bad);
+    expect("no queue", pk_pop(&pair->one, &bad, request, 0, &other), is_bad);
     compare_pops(&pop, &other);
     compare(pair);
 }

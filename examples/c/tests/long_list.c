@@ -45,7 +45,7 @@ static void lay_chain(void) {
 
 /* Pops load by load, and notes the loads. The handle has room for all descriptors then. */
 static void note_loads(void) {
-    struct pk_pop pop;
+    struct pk_pop_result pop;
     uint32_t status = pk_pop(&chain, &queue, bytes, 0, &pop);
     while (status == PK_LOAD && count < LOADS && pop.load_len <= sizeof bytes - len) {
         uint8_t *loaded = bytes + len;
@@ -59,7 +59,7 @@ static void note_loads(void) {
 }
 
 static void *pop_by_list(void *unused) {
-    struct pk_pop pop;
+    struct pk_pop_result pop;
     (void)unused;
     expect("by the list", pk_pop_ahead(&chain, &queue, ahead, count, bytes, len, &pop), PK_DONE);
     expect("the head", pop.head, LINKS - 1);

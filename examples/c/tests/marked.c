@@ -70,7 +70,7 @@ static void read_file(struct pk_chain *chain, struct pk_queue *queue, struct pk_
     static const uint8_t data[DATA];
     static struct offered offered;
     struct pk_device device = PK_DEVICE;
-    struct pk_pop step;
+    struct pk_pop_result step;
     offer((uint16_t)(queue->next_avail + 1));
     expect("the pop", take_chain(chain, queue, &offered, &step), PK_DONE);
     size_t len = load_front(chain, &step, request);

@@ -18,7 +18,7 @@ static struct pk_queue queue = {
     .desc = AT(DESC), .avail = AT(AVAIL), .used = AT(USED), .size = SIZE};
 static struct pk_chain chain;
 static struct pk_iotlb table;
-static struct pk_pop step;
+static struct pk_pop_result step;
 
 static void expect(const char *what, uint64_t found, uint64_t wanted) {
     if (found == wanted) return;
@@ -83,15 +83,15 @@ static void both_buffers_at_once(void) {
     struct pk_miss miss;
     lend();
     expect("the buffers", pop(), PK_MISS);
-    expect("the request", pk_miss(&chain, 0, 0, &miss), PK_MISS);
+    expect("the request", pk_find_miss(&chain, 0, 0, &miss), PK_MISS);
     expect("its address", miss.at, AT(REQUEST) + 0x10);
     expect("its length", miss.len, 80);
     expect("its access", miss.access, PK_ACCESS_READ);
-    expect("no more", pk_miss(&chain, 0, miss.at + miss.len, &miss), PK_DONE);
-    expect("the reply", pk_miss(&chain, 1, 0, &miss), PK_MISS);
+    expect("no more", pk_find_miss(&chain, 0, miss.at + miss.len, &miss), PK_DONE);
+    expect("the reply", pk_find_miss(&chain, 1, 0, &miss), PK_MISS);
     expect("its address", miss.at, AT(REPLY));
     expect("its access", miss.access, PK_ACCESS_WRITE);
-    expect("no third", pk_miss(&chain, 2, 0, &miss), PK_IDLE);
+    expect("no third", pk_find_miss(&chain, 2, 0, &miss), PK_IDLE);
     lend();
     map(REQUEST, PK_ACCESS_READ);
     map(REPLY, PK_ACCESS_READ_WRITE);

@@ -57,6 +57,21 @@ static const struct name statuses[] = {
     {87, "PK_RECORD_BAD_OPTIONS"},
     {89, "PK_RECORD_OUT_OF_MEMORY"},
     {90, "PK_RECORD_MISMATCH"},
+    {96, "PK_BAD_DEVICE"},
+    {97, "PK_BAD_QUEUE_SIZE"},
+    {98, "PK_BAD_QUEUE_ALIGNMENT"},
+    {99, "PK_BAD_QUEUE_END"},
+    {100, "PK_BAD_MAX_IN_FLIGHT"},
+    {101, "PK_BAD_EVENT_INDEX"},
+    {102, "PK_BAD_QUEUE_STATE"},
+    {103, "PK_QUEUE_NOT_BEGUN"},
+    {104, "PK_EMPTY_REGION"},
+    {105, "PK_BAD_REGION_HOST"},
+    {106, "PK_BAD_REGION_GUEST"},
+    {107, "PK_BAD_REGION_LEN"},
+    {108, "PK_BAD_REGION_END"},
+    {109, "PK_TOO_MANY_REGIONS"},
+    {110, "PK_REGIONS_OVERLAP"},
 };
 
 /* enum pk_state */
@@ -102,8 +117,8 @@ static const struct name calls[] = {
     {26, "PK_CALL_INIT"},        {27, "PK_CALL_OPENDIR"},      {28, "PK_CALL_READDIR"},
     {29, "PK_CALL_RELEASEDIR"},  {30, "PK_CALL_FSYNCDIR"},     {34, "PK_CALL_ACCESS"},
     {35, "PK_CALL_CREATE"},      {38, "PK_CALL_DESTROY"},      {42, "PK_CALL_BATCH_FORGET"},
-    {43, "PK_CALL_FALLOCATE"},   {44, "PK_CALL_READDIRPLUS"},  {45, "PK_CALL_RENAME2"},
-    {46, "PK_CALL_LSEEK"},       {47, "PK_CALL_COPY_FILE_RANGE"}, {50, "PK_CALL_SYNCFS"},
+    {43, "PK_CALL_FALLOCATE"},   {44, "PK_CALL_READDIRPLUS"},  {46, "PK_CALL_LSEEK"},
+    {47, "PK_CALL_COPY_FILE_RANGE"}, {50, "PK_CALL_SYNCFS"},
 };
 
 static void expect(const char *what, uint64_t found, uint64_t wanted) {

@@ -54,7 +54,7 @@ static void draw(void) {
 /* The ticket of a handle's next chain. */
 static uint32_t ticket_of(struct pk_chain *chain, struct pk_queue *queue) {
     uint8_t bytes[PK_LOAD_MAX];
-    struct pk_pop pop = {0};
+    struct pk_pop_result pop = {0};
     uint32_t status = pk_pop(chain, queue, bytes, 0, &pop);
     while (status == PK_LOAD) {
         memcpy(bytes, (const void *)pop.load_at, pop.load_len);
@@ -71,11 +71,11 @@ static void check_handles(void) {
     expect("a queue", pk_queue_begin(&queue, 0), PK_DONE);
     for (size_t k = 0; k < MANY; k++) {
         struct pk_chain chain = {0};
-        if (k % 3 == 0) expect("no region", set_memory(&chain, 100), PK_BAD_ARGUMENT);
+        if (k % 3 == 0) expect("no region", set_memory(&chain, 100), PK_BAD_REGION_LEN);
         expect("the memory", set_memory(&chain, sizeof memory), PK_DONE);
         tickets[k] = ticket_of(&chain, &queue);
         if (k % 5 == 0) { /* of later memory it goes on with its tickets */
-            expect("no region", set_memory(&chain, 0), PK_BAD_ARGUMENT);
+            expect("no region", set_memory(&chain, 0), PK_EMPTY_REGION);
             expect("other memory", set_memory(&chain, sizeof memory), PK_DONE);
             expect("the next ticket", ticket_of(&chain, &queue), (uint32_t)(tickets[k] + 1));
         }
@@ -94,7 +94,7 @@ static void check_resets(void) {
         if (k % 7 == 0) {
             odd.size = 7, odd.reset_count = 4711;
             before = odd;
-            expect("no queue", pk_queue_begin(&odd, 1), PK_BAD_ARGUMENT);
+            expect("no queue", pk_queue_begin(&odd, 1), PK_BAD_QUEUE_SIZE);
             expect("it is as it was", memcmp(&odd, &before, sizeof odd) != 0, 0);
         }
     }

@@ -22,7 +22,7 @@ static struct pk_device device = PK_DEVICE;
 static struct pk_queue queue = {.desc = DESC, .avail = AVAIL, .used = USED, .size = SIZE};
 static struct offered offered;
 static struct pk_chain chain;
-static struct pk_pop step;
+static struct pk_pop_result step;
 
 static void expect(const char *what, uint64_t found, uint64_t wanted) {
     if (found == wanted) return;

@@ -100,7 +100,7 @@ int main(void) {
     struct pk_device device = PK_DEVICE;
     struct pk_queue queue = {.desc = DESC, .avail = AVAIL, .used = USED, .size = SIZE};
     struct pk_chain chain = {0};
-    struct pk_pop step;
+    struct pk_pop_result step;
     struct pk_call call;
     bool notify = false;
     memory = mmap(NULL, MEMORY, PROT_READ | PROT_WRITE, MAP_PRIVATE | MAP_ANONYMOUS, -1, 0);

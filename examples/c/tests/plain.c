@@ -46,7 +46,7 @@ static void check_misses(struct bench *b) {
         uint64_t start = from > p.at ? from : p.at, gone = start - p.at;
         bool is_there = misses(start, gone < p.len ? p.len - gone : 0, &at, &len);
         uint32_t wanted = k == b->count ? PK_IDLE : is_there ? PK_MISS : PK_DONE;
-        expect("pk_miss", pk_miss(&b->chain, k, from, &miss), wanted);
+        expect("pk_miss", pk_find_miss(&b->chain, k, from, &miss), wanted);
         if (wanted != PK_MISS) at = len = 0;
         expect("a miss", miss.at, at);
         expect("its length", miss.len, len);
@@ -55,7 +55,7 @@ static void check_misses(struct bench *b) {
 }
 
 /* A chain that was popped. */
-static void check_chain(struct bench *b, struct pk_queue *q, const struct pk_pop *step,
+static void check_chain(struct bench *b, struct pk_queue *q, const struct pk_pop_result *step,
                         const struct pk_queue *before) {
     b->queue = q, b->position = before->next_avail, b->popped = before->pop_count;
     check_ticket(b, step->ticket);
@@ -72,7 +72,7 @@ static void check_chain(struct bench *b, struct pk_queue *q, const struct pk_pop
 
 static void do_pop(struct bench *b, struct pk_queue *q) {
     struct pk_queue before;
-    struct pk_pop step;
+    struct pk_pop_result step;
     struct told told;
     uint32_t status;
     bool again;
@@ -483,7 +483,7 @@ static void begin_queue(struct pk_queue *q) {
     bool is_bad = 16 * size > UINT64_MAX - q->desc || 6 + 2 * size > UINT64_MAX - q->avail ||
                   6 + 8 * size > UINT64_MAX - q->used;
     uint32_t status = pk_queue_begin(q, (uint16_t)ONE_OF(0, 0xfffe, 0xffff, chance()));
-    expect("pk_queue_begin", status, is_bad ? PK_BAD_ARGUMENT : PK_DONE);
+    expect("pk_queue_begin", status, is_bad ? PK_BAD_QUEUE_END : PK_DONE);
     if (is_bad) begin_queue(q);
 }
 

@@ -8,7 +8,7 @@
     field(data_len) field(flags) field(mode) field(umask) field(rdev) field(valid) \
     field(has_handle) field(has_owner) field(delayed) field(kill_priv) field(flush) field(unlock) \
     field(data_only) field(attr) field(has_group) field(group) field(has_label) field(label_name) \
-    field(label) field(setxattr_flags) field(error)
+    field(label) field(setxattr_flags)
 
 #define NUMBER(name) N_##name,
 enum { FIELDS(NUMBER) COUNT };

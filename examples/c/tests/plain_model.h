@@ -46,6 +46,6 @@ void check_ticket(struct bench *b, uint32_t ticket);
 void lend_once(const struct bench *b);
 
 /* A pop by the library. `again`: it was interrupted, and has to begin again. */
-uint32_t pop(struct bench *b, struct pk_queue *q, struct pk_pop *step, bool *again);
+uint32_t pop(struct bench *b, struct pk_queue *q, struct pk_pop_result *step, bool *again);
 
 #endif

@@ -5,11 +5,11 @@
 #include <string.h>
 
 /* Calls that don't come next while a pop waits for the bytes of a load. */
-static void call_wrongly(struct bench *b, struct pk_queue *q, const struct pk_pop *step,
+static void call_wrongly(struct bench *b, struct pk_queue *q, const struct pk_pop_result *step,
                          bool is_rest) {
     static uint8_t bytes[PK_LOAD_MAX];
     uint8_t front[PK_FRONT_MAX], notify;
-    struct pk_pop again;
+    struct pk_pop_result again;
     struct pk_stores stores;
     struct pk_window window;
     struct pk_chain *c = &b->chain;
@@ -45,7 +45,7 @@ void check_ticket(struct bench *b, uint32_t ticket) {
 static bool pop_between(const struct bench *b, struct pk_queue *q) {
     static uint8_t bytes[PK_LOAD_MAX];
     struct bench *other = &benches[(size_t)(b - benches + 1) % CHAINS], scratch = {0};
-    struct pk_pop step;
+    struct pk_pop_result step;
     size_t len = 0;
     uint32_t status;
     if (has_iommu || other->queue || model_pop(&scratch, q).status || scratch.fault) return false;
@@ -64,7 +64,7 @@ static bool stop_between(struct bench *b, struct pk_queue *q, size_t load_len) {
     static uint8_t bytes[PK_LOAD_MAX];
     struct bench *other = &benches[(size_t)(b - benches + 1) % CHAINS];
     uint64_t index = q->avail + 2, before = number_at(index, 2);
-    struct pk_pop step;
+    struct pk_pop_result step;
     if (has_iommu || other->queue) return false;
     put(index, q->next_avail + q->size + 1u, 2);
     if (number_at(index, 2) == before) return false;
@@ -78,9 +78,9 @@ static bool stop_between(struct bench *b, struct pk_queue *q, size_t load_len) {
 }
 
 /* Amid a pop: it may begin again, after a drop or another handle's pop. Returns whether it does. */
-static bool interrupt(struct bench *b, struct pk_queue *q, const struct pk_pop *step,
+static bool interrupt(struct bench *b, struct pk_queue *q, const struct pk_pop_result *step,
                       bool is_rest) {
-    struct pk_pop none;
+    struct pk_pop_result none;
     static uint8_t bytes[PK_LOAD_MAX];
     switch (below(5)) {
     case 0: call_wrongly(b, q, step, is_rest); return false;
@@ -110,7 +110,7 @@ void lend_once(const struct bench *b) {
 }
 
 /* Whether a load's bytes are those of an area of the device's addresses. */
-static bool is_in(const struct pk_pop *step, uint64_t at, uint64_t len) {
+static bool is_in(const struct pk_pop_result *step, uint64_t at, uint64_t len) {
     uintptr_t load = step->load_at;
     size_t left = step->load_len;
     bool began = false;
@@ -129,8 +129,8 @@ static bool is_in(const struct pk_pop *step, uint64_t at, uint64_t len) {
 }
 
 /* A pop loads the available index, then the ring's entry, then entries of the two tables. */
-static void check_load(const struct bench *b, const struct pk_queue *q, const struct pk_pop *step,
-                       unsigned number) {
+static void check_load(const struct bench *b, const struct pk_queue *q,
+                       const struct pk_pop_result *step, unsigned number) {
     uint64_t slot = q->avail + 4 + 2 * (uint64_t)(q->next_avail % q->size);
     if (number < 2) {
         expect("a load of the ring", step->load_len, 2);
@@ -144,9 +144,9 @@ static void check_load(const struct bench *b, const struct pk_queue *q, const st
 
 /* A call of pk_pop. One that lacks memory changes nothing, and is made again. */
 static uint32_t pop_part(struct bench *b, struct pk_queue *q, const uint8_t *bytes, size_t len,
-                         struct pk_pop *step) {
+                         struct pk_pop_result *step) {
     struct pk_queue before = *q;
-    struct pk_pop asked = *step;
+    struct pk_pop_result asked = *step;
     uint32_t state = pk_chain_state(&b->chain);
     scarce_begin();
     uint32_t status = pk_pop(&b->chain, q, bytes, len, step);
@@ -161,7 +161,7 @@ static uint32_t pop_part(struct bench *b, struct pk_queue *q, const uint8_t *byt
 
 /* A pop in one call. One that lacks memory is under way: it is dropped, and begins again. */
 static uint32_t pop_at_once(struct bench *b, struct pk_queue *q, struct pk_ring *ring,
-                            struct pk_pop *step) {
+                            struct pk_pop_result *step) {
     struct pk_queue before = *q;
     scarce_begin();
     uint32_t status = pk_pop_ring(&b->chain, q, ring, step);
@@ -173,7 +173,7 @@ static uint32_t pop_at_once(struct bench *b, struct pk_queue *q, struct pk_ring 
 }
 
 /* A pop by the library, load by load or with its loads ahead. */
-uint32_t pop(struct bench *b, struct pk_queue *q, struct pk_pop *step, bool *again) {
+uint32_t pop(struct bench *b, struct pk_queue *q, struct pk_pop_result *step, bool *again) {
     static uint8_t bytes[PK_LOAD_MAX];
     struct pk_ring ring = {0};
     size_t len = 0, part = 0;

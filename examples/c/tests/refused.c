@@ -118,7 +118,7 @@ static void pop_to(uintptr_t end, uint32_t wanted) {
     uint8_t bytes[PK_LOAD_MAX];
     uint32_t status;
     size_t len = 0;
-    now.step = (struct pk_pop){0};
+    now.step = (struct pk_pop_result){0};
     do {
         do {
             begin(POP);
@@ -340,7 +340,7 @@ static void play_script(void) {
     let_go();
     move();
     row_name = "other memory";
-    set_memory(LOW_MOVED, PAGE, PK_BAD_ARGUMENT);
+    set_memory(LOW_MOVED, PAGE, PK_REGIONS_OVERLAP);
     memcpy(now.pages + LOW_MOVED * PAGE, now.pages + LOW * PAGE, 2 * PAGE);
     set_memory(LOW_MOVED, BOUND, PK_DONE);
     now.low = LOW_MOVED;

@@ -50,7 +50,7 @@ static const char *const faults[] = {"",
 /* Serves the chain that is available. Returns the length of its reply. */
 static size_t serve_chain(void) {
     static struct offered offered;
-    struct pk_pop pop;
+    struct pk_pop_result pop;
     struct pk_call call = {0};
     uint32_t element[2], status = take_chain(&chain, &queue, &offered, &pop);
     bool notify = false;

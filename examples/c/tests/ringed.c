@@ -89,7 +89,7 @@ static void write_index(void) {
 
 /* Pops, and drops the chain so that it can be popped again, or leaves the queue behind it. */
 static void pop(struct pk_chain *chain) {
-    struct pk_pop found;
+    struct pk_pop_result found;
     uint16_t next = queue.next_avail, stopped;
     uint16_t head = number(AVAIL + 4 + 2 * (size_t)(next % SIZE));
     uint32_t status, wanted = PK_DONE;

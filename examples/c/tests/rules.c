@@ -47,7 +47,7 @@ static void offer(uint16_t head) {
 }
 
 /* Goes on with a pop, from bytes that were loaded for its first load; NULL loads them. */
-static uint32_t pop(struct pk_chain *chain, const void *first, struct pk_pop *step) {
+static uint32_t pop(struct pk_chain *chain, const void *first, struct pk_pop_result *step) {
     uint32_t status = pk_pop(chain, &queue, bytes, 0, step);
     if (status == PK_LOAD && first) {
         memcpy(bytes, first, step->load_len);
@@ -71,7 +71,7 @@ static void push(struct pk_chain *chain, uint16_t seen, uint8_t wanted) {
 /* Rule 2. The guest changes its request between two loads of the same bytes: what the caller tested
  * isn't what is decoded. The library keeps no bytes of the request. */
 static void load_twice(void) {
-    struct pk_pop step;
+    struct pk_pop_result step;
     struct pk_call call;
     uint8_t request[GETATTR_LEN];
     begin(0, 0);
@@ -94,7 +94,7 @@ static void load_twice(void) {
  * far ahead: the queue stops. */
 static void tear_an_index(void) {
     const uint16_t torn = 0x1ff;
-    struct pk_pop step;
+    struct pk_pop_result step;
     begin(0xff, 0);
     offer(0);
     expect("a pop by a whole index", pop(&chains[0], NULL, &step), PK_DONE);
@@ -107,7 +107,7 @@ static void tear_an_index(void) {
 static void load_an_entry_early(void) {
     struct pk_load_ahead loads[2] = {{(uintptr_t)memory + AVAIL + 2, 2},
                                      {(uintptr_t)memory + AVAIL + 4, 2}};
-    struct pk_pop step;
+    struct pk_pop_result step;
     begin(0, 0);
     memcpy(bytes + 2, memory + AVAIL + 4, 2); /* the driver makes the chain available after it */
     offer(2);
@@ -122,7 +122,7 @@ static void load_an_entry_early(void) {
 /* NOTIFICATIONS. A thread that resets its event after its last pop resets a notification that came
  * meanwhile, and sleeps beside a chain. */
 static void reset_an_event_late(void) {
-    struct pk_pop step;
+    struct pk_pop_result step;
     int event = 1; /* as an eventfd's counter: the thread was woken */
     begin(0, 0);
     expect("a pop", pop(&chains[0], NULL, &step), PK_IDLE);
@@ -140,7 +140,7 @@ static void reset_an_event_late(void) {
 /* Statuses 2 to 8. The chain that is in flight is pushed; the queue is popped after its reset. */
 static void stop_a_queue(void) {
     const uint16_t ahead = 100;
-    struct pk_pop step;
+    struct pk_pop_result step;
     struct pk_call call;
     begin(0, 0);
     offer(0);
@@ -159,7 +159,7 @@ static void stop_a_queue(void) {
 /* FEATURES. With VIRTIO_F_EVENT_IDX the 2 bytes are used_event, an index; without it, flags.
  * A queue that wasn't given `event_index` takes the driver's index 1 for NO_INTERRUPT. */
 static void agree_on_events(void) {
-    struct pk_pop step;
+    struct pk_pop_result step;
     struct pk_call call;
     for (uint8_t agreed = 0; agreed < 2; agreed++) {
         begin(1, agreed);

@@ -13,7 +13,7 @@ static _Alignas(4096) uint8_t memory[0x5000]; /* the guest's, from its address 0
 static struct pk_device device = PK_DEVICE;
 static struct pk_queue queue = {.desc = DESC, .avail = AVAIL, .used = USED, .size = SIZE};
 static struct pk_chain chain;
-static struct pk_pop step;
+static struct pk_pop_result step;
 static struct pk_call call;
 
 static void expect(const char *what, uint64_t found, uint64_t wanted) {
@@ -245,7 +245,7 @@ static void dropped_meanwhile(void) {
     static uint8_t bytes[PK_LOAD_MAX];
     const struct pk_region region = {.guest = 0, .len = sizeof memory, .host = (uintptr_t)memory};
     struct pk_chain other = {0};
-    struct pk_pop early = {0};
+    struct pk_pop_result early = {0};
     expect("its memory", pk_chain_set_memory(&other, &device, &region, 1), PK_DONE);
     request(GETATTR, 56);
     expect("an early pop", pk_pop(&other, &queue, bytes, 0, &early), PK_LOAD);

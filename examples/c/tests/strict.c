@@ -83,24 +83,32 @@ static void spoil_queue(struct pk_queue *q) {
     }
 }
 
-static bool is_laid_out(const struct pk_queue *q) {
+/* What is wrong with a queue's size and addresses, in the header's order. */
+static uint32_t layout_status(const struct pk_queue *q) {
     uint64_t size = q->size;
-    return size != 0 && size <= 32768 && (size & (size - 1)) == 0 && q->desc % 16 == 0 &&
-           q->avail % 2 == 0 && q->used % 4 == 0 && 16 * size <= UINT64_MAX - q->desc &&
-           6 + 2 * size <= UINT64_MAX - q->avail && 6 + 8 * size <= UINT64_MAX - q->used;
+    if (size == 0 || size > 32768 || (size & (size - 1)) != 0) return PK_BAD_QUEUE_SIZE;
+    if (q->desc % 16 || q->avail % 2 || q->used % 4) return PK_BAD_QUEUE_ALIGNMENT;
+    if (16 * size > UINT64_MAX - q->desc || 6 + 2 * size > UINT64_MAX - q->avail ||
+        6 + 8 * size > UINT64_MAX - q->used)
+        return PK_BAD_QUEUE_END;
+    return PK_DONE;
 }
 
-/* The author's fields are valid; and so are the library's. */
-static bool is_yours(const struct pk_queue *q) {
-    return is_laid_out(q) && q->max_in_flight <= q->size && q->event_index <= 1;
+/* And with the author's other fields; and with the library's. */
+static uint32_t yours_status(const struct pk_queue *q) {
+    if (layout_status(q) != PK_DONE) return layout_status(q);
+    if (q->max_in_flight > q->size) return PK_BAD_MAX_IN_FLIGHT;
+    return q->event_index > 1 ? PK_BAD_EVENT_INDEX : PK_DONE;
 }
 
 static uint16_t in_flight(const struct pk_queue *q) {
     return (uint16_t)(q->next_avail - q->next_used);
 }
 
-static bool is_queue(const struct pk_queue *q) {
-    return is_yours(q) && in_flight(q) <= q->size && q->stopped <= 8 && q->pushing <= 1;
+static uint32_t queue_status(const struct pk_queue *q) {
+    if (yours_status(q) != PK_DONE) return yours_status(q);
+    bool is_state = in_flight(q) <= q->size && q->stopped <= 8 && q->pushing <= 1;
+    return is_state ? PK_DONE : PK_BAD_QUEUE_STATE;
 }
 
 static void begin_queue(void) {
@@ -108,8 +116,8 @@ static void begin_queue(void) {
     uint16_t first = (uint16_t)chance();
     for (uint64_t k = below(3); k > 0; k--) spoil_queue(&q);
     before = q;
-    bool is_good = is_yours(&q);
-    expect("pk_queue_begin", pk_queue_begin(&q, first), is_good ? PK_DONE : PK_BAD_ARGUMENT);
+    bool is_good = yours_status(&q) == PK_DONE;
+    expect("pk_queue_begin", pk_queue_begin(&q, first), yours_status(&q));
     if (is_good) {
         expect("a count of resets", q.reset_count == 0 || q.reset_count == before.reset_count, 0);
         before.reset_count = q.reset_count;
@@ -127,27 +135,29 @@ static void use_queue(void) {
     struct pk_device device = some_device();
     struct pk_chain chain = {0};
     struct pk_queue q = some_queue(), before;
-    struct pk_pop step;
+    struct pk_pop_result step;
     struct pk_store store;
     uint8_t byte = 0;
     for (uint64_t k = below(3); k > 0; k--) spoil_queue(&q);
     before = q;
-    bool is_good = is_queue(&q);
+    uint32_t wanted = queue_status(&q);
     expect("no memory", pk_pop(&chain, &q, &byte, 0, &step), PK_WRONG_ORDER);
     expect("the memory", pk_chain_set_memory(&chain, &device, &region, 1), PK_DONE);
     uint32_t notified = pk_set_notification(&chain, &q, (uint32_t)below(2), &store);
-    expect("a notification", notified == PK_BAD_ARGUMENT, !is_good);
+    if (wanted != PK_DONE || notified != PK_NOT_MAPPED) expect("a notification", notified, wanted);
     expect("a drop", pk_drop(&chain, &q), PK_DONE);
     uint32_t popped = pk_pop(&chain, &q, &byte, 0, &step);
     bool is_full = in_flight(&q) >= (q.max_in_flight ? q.max_in_flight : 1);
-    if (!is_good || q.reset_count == 0)
-        expect("a pop", popped, PK_BAD_ARGUMENT);
+    if (q.reset_count == 0)
+        expect("a pop", popped, PK_QUEUE_NOT_BEGUN);
+    else if (wanted != PK_DONE)
+        expect("a pop", popped, wanted);
     else if (is_full)
         expect("a pop", popped, PK_CHAIN_IN_FLIGHT);
     else if (before.stopped)
         expect("a pop", popped, PK_STOPPED);
     else
-        expect("a pop", popped == PK_BAD_ARGUMENT || popped == PK_CHAIN_IN_FLIGHT, 0);
+        expect("a pop", popped >= PK_BAD_ARGUMENT && popped != PK_NOT_MAPPED, 0);
     if (popped >= 2 && popped <= 8) before.stopped = (uint16_t)popped;
     expect("the queue", memcmp(&before, &q, sizeof q) != 0, 0);
     pk_chain_free(&chain);
@@ -157,17 +167,27 @@ static void use_queue(void) {
 
 static struct pk_region regions[REGIONS];
 
-static bool are_regions(size_t count) {
-    for (size_t k = 0; k < count; k++) {
-        const struct pk_region *r = &regions[k];
-        if (r->len == 0 || (r->guest | r->len | r->host) % PAGE) return false;
-        if (r->len - 1 > UINT64_MAX - r->guest || r->len - 1 > UINTPTR_MAX - r->host) return false;
+static uint32_t region_status(const struct pk_region *r) {
+    if (r->len == 0) return PK_EMPTY_REGION;
+    if (r->host % PAGE) return PK_BAD_REGION_HOST;
+    if (r->guest % PAGE) return PK_BAD_REGION_GUEST;
+    if (r->len % PAGE) return PK_BAD_REGION_LEN;
+    if (r->len - 1 > UINT64_MAX - r->guest || r->len - 1 > UINTPTR_MAX - r->host)
+        return PK_BAD_REGION_END;
+    return PK_DONE;
+}
+
+/* What is wrong with the first regions: each by itself, then all. */
+static uint32_t regions_status(size_t count) {
+    for (size_t k = 0; k < count; k++)
+        if (region_status(&regions[k]) != PK_DONE) return region_status(&regions[k]);
+    if (count > PK_REGIONS_MAX) return PK_TOO_MANY_REGIONS;
+    for (size_t k = 0; k < count; k++)
         for (size_t n = 0; n < k; n++)
-            if (r->guest <= regions[n].guest + (regions[n].len - 1) &&
-                regions[n].guest <= r->guest + (r->len - 1))
-                return false;
-    }
-    return count <= PK_REGIONS_MAX;
+            if (regions[k].guest <= regions[n].guest + (regions[n].len - 1) &&
+                regions[n].guest <= regions[k].guest + (regions[k].len - 1))
+                return PK_REGIONS_OVERLAP;
+    return PK_DONE;
 }
 
 static void spoil_region(struct pk_region *r) {
@@ -200,14 +220,13 @@ static void set_memory(void) {
     }
     for (uint64_t k = below(3); k > 0 && count > 0; k--) spoil_region(&regions[below(count)]);
     if (below(8) == 0) spoil_device(&device);
-    bool is_good = is_device(&device) && are_regions(count);
+    uint32_t wanted = is_device(&device) ? regions_status(count) : PK_BAD_DEVICE;
     if (below(2))
         expect("no regions", pk_chain_set_memory(&chain, &(struct pk_device)PK_DEVICE, regions, 0),
                PK_DONE);
     uint32_t state = pk_chain_state(&chain);
-    expect("the memory", pk_chain_set_memory(&chain, &device, regions, count),
-           is_good ? PK_DONE : PK_BAD_ARGUMENT);
-    expect("the state", pk_chain_state(&chain), is_good ? PK_STATE_FREE : state);
+    expect("the memory", pk_chain_set_memory(&chain, &device, regions, count), wanted);
+    expect("the state", pk_chain_state(&chain), wanted == PK_DONE ? PK_STATE_FREE : state);
     pk_chain_free(&chain);
 }
 
@@ -215,10 +234,10 @@ static void set_memory(void) {
 
 /* Spoils a queue or none of `count`, and returns the status of a save. */
 static uint32_t save_status(const struct pk_device *d, size_t count) {
-    if (!is_device(d) || d->options & ~KNOWN || count == 0 || count > PK_QUEUES_MAX)
-        return PK_BAD_ARGUMENT;
+    if (!is_device(d)) return PK_BAD_DEVICE;
+    if (d->options & ~KNOWN || count == 0 || count > PK_QUEUES_MAX) return PK_BAD_ARGUMENT;
     for (size_t k = 0; k < count; k++) {
-        if (!is_queue(&queues[k])) return PK_BAD_ARGUMENT;
+        if (queue_status(&queues[k]) != PK_DONE) return queue_status(&queues[k]);
         if (in_flight(&queues[k])) return PK_CHAIN_IN_FLIGHT;
     }
     return PK_DONE;
@@ -254,7 +273,7 @@ static void spoil_record(size_t count) {
 static bool is_saved_queue(size_t at) {
     struct pk_queue q = {.size = (uint16_t)get(SIZE + at, 2)};
     q.desc = get(DESC + at, 8), q.avail = get(AVAIL + at, 8), q.used = get(USED + at, 8);
-    return is_laid_out(&q) && get(STOPPED + at, 4) <= 1;
+    return layout_status(&q) == PK_DONE && get(STOPPED + at, 4) <= 1;
 }
 
 static uint32_t head_status(const struct pk_device *d) {
@@ -269,7 +288,7 @@ static uint32_t head_status(const struct pk_device *d) {
 
 /* The status of a restore from the first `len` bytes, into `lent` queues. */
 static uint32_t restore_status(const struct pk_device *d, size_t len, size_t lent) {
-    if (!is_device(d)) return PK_BAD_ARGUMENT;
+    if (!is_device(d)) return PK_BAD_DEVICE;
     if (len < HEAD) return PK_RECORD_TRUNCATED;
     if (head_status(d)) return head_status(d);
     size_t count = (size_t)get(COUNT, 4), at = HEAD + EACH * count;
@@ -280,9 +299,10 @@ static uint32_t restore_status(const struct pk_device *d, size_t len, size_t len
     if (get(VERSION, 4) == 2 && len < at + END) return PK_RECORD_TRUNCATED;
     if (get(VERSION, 4) == 2 && get(at, 8) != d->limit) return PK_RECORD_MISMATCH;
     if (count > lent) return PK_SHORT_BUFFER;
-    for (size_t k = 0; k < count; k++)
-        if (there[k].event_index > 1 || there[k].max_in_flight > get(SIZE + EACH * k, 2))
-            return PK_BAD_ARGUMENT;
+    for (size_t k = 0; k < count; k++) {
+        if (there[k].max_in_flight > get(SIZE + EACH * k, 2)) return PK_BAD_MAX_IN_FLIGHT;
+        if (there[k].event_index > 1) return PK_BAD_EVENT_INDEX;
+    }
     return PK_DONE;
 }
 
@@ -356,7 +376,7 @@ static _Alignas(PAGE) uint8_t guest[PAGE];
 /* Pops one more chain of a queue, of no byte. Returns its ticket. */
 static uint32_t pop_next(struct pk_chain *chain, struct pk_queue *q) {
     static uint8_t bytes[PK_LOAD_MAX];
-    struct pk_pop step;
+    struct pk_pop_result step;
     size_t len = 0;
     uint32_t status;
     uint16_t index = (uint16_t)(q->next_avail + 1);

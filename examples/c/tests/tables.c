@@ -74,7 +74,7 @@ static bool is_allowed(uint64_t at, uint64_t len, uint32_t access) {
     return true;
 }
 
-static uint32_t pop(struct pk_queue *queue, struct pk_pop *step) {
+static uint32_t pop(struct pk_queue *queue, struct pk_pop_result *step) {
     uint8_t bytes[PK_LOAD_MAX];
     uint32_t status = pk_pop(&chain, queue, bytes, 0, step);
     while (status == PK_LOAD) {
@@ -102,7 +102,7 @@ static void look_at_windows(uint64_t at, uint64_t len, bool is_reply) {
 /* A chain of one buffer. Its bytes are `len` from offset `at` of the rows on. */
 static void look(void) {
     struct pk_queue queue = fresh;
-    struct pk_pop step;
+    struct pk_pop_result step;
     bool is_reply = below(2);
     uint32_t access = is_reply ? PK_ACCESS_WRITE : PK_ACCESS_READ;
     uint64_t at = below(ROWS * PAGE), len = 1 + below(below(4) ? LONGEST * PAGE : 2 * PAGE);

@@ -115,7 +115,7 @@ static void map(unsigned page) {
                                      page * (uint64_t)PAGE, PK_ACCESS_READ_WRITE), PK_DONE);
 }
 
-static uint32_t pop(struct pk_chain *chain, struct list *list, struct pk_pop *pop) {
+static uint32_t pop(struct pk_chain *chain, struct list *list, struct pk_pop_result *pop) {
     uint8_t bytes[PK_LOAD_MAX];
     if (below(2) || !is_allowed(list)) guess(list, queue.next_avail);
     spoil(list);
@@ -144,8 +144,8 @@ static void push(struct pk_chain *chain) {
 }
 
 /* The reply is the request's number, behind a header. */
-static void answer(struct pk_chain *chain, const struct pk_pop *pop, const struct pk_window *from,
-                   const struct pk_window *to) {
+static void answer(struct pk_chain *chain, const struct pk_pop_result *pop,
+                   const struct pk_window *from, const struct pk_window *to) {
     uint8_t reply[ECHO] = {ECHO};
     expect("no fault", pop->fault, 0);
     expect("the number", from->len, 8);
@@ -156,7 +156,7 @@ static void answer(struct pk_chain *chain, const struct pk_pop *pop, const struc
 }
 
 /* Under the lock. Returns whether it popped a chain, with its windows. */
-static bool take(struct pk_chain *chain, struct list *list, struct pk_pop *popped,
+static bool take(struct pk_chain *chain, struct list *list, struct pk_pop_result *popped,
                  struct pk_window windows[2]) {
     exchange(chain);
     uint32_t status = pop(chain, list, popped);
@@ -177,7 +177,7 @@ static void *serve(void *seed) {
     struct pk_region region = {0, MEMORY, (uintptr_t)memory};
     struct pk_chain chain = {0};
     struct pk_window windows[2];
-    struct pk_pop popped;
+    struct pk_pop_result popped;
     struct list list;
     chance_begin((uintptr_t)seed);
     expect("the memory", pk_chain_set_memory(&chain, &device, &region, 1), PK_DONE);

@@ -52,7 +52,7 @@ enum {
 /* The handle as calls that change nothing show it. */
 struct seen {
     uint32_t pop, begun, decode, answer; /* statuses */
-    struct pk_pop wanted, first;
+    struct pk_pop_result wanted, first;
     size_t request_count, room_count, range_count;
     struct pk_window request[WINDOWS], room[WINDOWS];
     struct pk_range ranges[WINDOWS];
@@ -65,7 +65,7 @@ struct world {
     unsigned low, offered;
     struct pk_device device, moved;
     struct pk_queue queues[2], restored[2];
-    struct pk_pop step;
+    struct pk_pop_result step;
     struct pk_call call;
     struct pk_stores stores;
     uint64_t listed;

@@ -79,21 +79,31 @@ impl<B: Bitmap + 'static> MappedMemory<B> {
     /// The guest's memory over these regions.
     ///
     /// # Errors
-    /// `BadArgument`: there are more than `Device::MAX_REGIONS`, one isn't of whole pages of 4096
-    /// bytes, one is longer than 2^56 bytes, or one isn't mapped for reads and writes: a store of
-    /// the worker's would end the process.
+    /// - `EmptyRegion`, `BadRegionHost`, `BadRegionGuest`, `BadRegionLen`: of the first region that
+    ///   isn't of whole pages of 4096 bytes.
+    /// - `BadRegionEnd`: it ends past the last address, or is longer than 2^56 bytes.
+    /// - `BadArgument`: it isn't mapped for reads and writes. A store of the worker's would end the
+    ///   process.
+    /// - `TooManyRegions`: there are more than `Device::MAX_REGIONS`.
     pub fn new(memory: GuestMemoryMmap<B>) -> Result<MappedMemory<B>, Status> {
         let stretch = |region: &GuestRegionMmap<B>| {
             let (guest, len) = (region.start_addr().raw_value(), region.len());
-            let is_whole = (guest | len | region.as_ptr() as u64) % PAGE == 0 && len > 0;
+            let host = region.as_ptr() as usize;
             let fits = guest.checked_add(len).is_some() && len <= 1 << OFFSET_BITS;
-            let is_written = region.prot() & READ_WRITE == READ_WRITE;
-            let stretch = Stretch { guest, len, host: region.as_ptr() as usize };
-            (is_whole && fits && is_written).then_some(stretch).ok_or(Status::BadArgument)
+            let checks = [
+                (len > 0, Status::EmptyRegion),
+                (host as u64 % PAGE == 0, Status::BadRegionHost),
+                (guest % PAGE == 0, Status::BadRegionGuest),
+                (len % PAGE == 0, Status::BadRegionLen),
+                (fits, Status::BadRegionEnd),
+                (region.prot() & READ_WRITE == READ_WRITE, Status::BadArgument),
+            ];
+            let refused = checks.into_iter().find(|(holds, _)| !holds);
+            refused.map_or(Ok(Stretch { guest, len, host }), |(_, status)| Err(status))
         };
         let stretches = regions(&memory).map(stretch).collect::<Result<Vec<_>, _>>()?;
         if stretches.len() > Device::MAX_REGIONS {
-            return Err(Status::BadArgument);
+            return Err(Status::TooManyRegions);
         }
         Ok(MappedMemory { memory, stretches })
     }
@@ -335,11 +345,13 @@ mod tests {
     #[test]
     fn regions_that_the_library_does_not_take_are_refused() {
         let odd = GuestMemoryMmap::<()>::from_ranges(&[(GuestAddress(0x4000), 0x1800)]).unwrap();
-        assert_eq!(MappedMemory::new(odd).err(), Some(Status::BadArgument));
+        assert_eq!(MappedMemory::new(odd).err(), Some(Status::BadRegionLen));
+        let odd = GuestMemoryMmap::<()>::from_ranges(&[(GuestAddress(0x4800), 0x1000)]).unwrap();
+        assert_eq!(MappedMemory::new(odd).err(), Some(Status::BadRegionGuest));
         let ranges: Vec<_> =
             (0..=Device::MAX_REGIONS as u64).map(|k| (GuestAddress(k << 13), 0x1000)).collect();
         let many = GuestMemoryMmap::<()>::from_ranges(&ranges).unwrap();
-        assert_eq!(MappedMemory::new(many).err(), Some(Status::BadArgument));
+        assert_eq!(MappedMemory::new(many).err(), Some(Status::TooManyRegions));
     }
 
     /// Safe code maps memory that can't be written. A store there would be a SIGSEGV.

@@ -151,7 +151,7 @@ impl Chain {
         &mut self,
         queue: &mut Queue,
         loaded: &[u8],
-        pop: &mut sys::Pop,
+        pop: &mut sys::PopResult,
     ) -> Result<PopStep, Status> {
         // SAFETY: as the module says.
         let status = unsafe {
@@ -166,7 +166,7 @@ impl Chain {
         queue: &mut Queue,
         ahead: &[sys::LoadAhead],
         bytes: &[u8],
-        pop: &mut sys::Pop,
+        pop: &mut sys::PopResult,
     ) -> Result<PopStep, Status> {
         // SAFETY: as the module says.
         let status = unsafe {
@@ -184,7 +184,7 @@ impl Chain {
     }
 
     /// The result of a pop that ended with this status.
-    fn popped(&mut self, status: u32, pop: &sys::Pop) -> Result<PopStep, Status> {
+    fn popped(&mut self, status: u32, pop: &sys::PopResult) -> Result<PopStep, Status> {
         match status {
             status::DONE => {
                 self.ticket = pop.ticket;
@@ -208,7 +208,7 @@ impl Chain {
     pub fn miss(&mut self, index: usize, from: u64) -> Missed {
         let mut miss = sys::Miss::default();
         // SAFETY: as the module says.
-        match unsafe { sys::pk_miss(&mut self.handle, index, from, &mut miss) } {
+        match unsafe { sys::pk_find_miss(&mut self.handle, index, from, &mut miss) } {
             status::MISS => Missed::Range(miss),
             status::DONE => Missed::Nothing,
             _ => Missed::NoDescriptor,
@@ -222,7 +222,7 @@ impl Chain {
     }
 
     /// Keeps the windows of the chain that was popped. If they can't be kept the pop is undone.
-    pub fn keep_windows(&mut self, queue: &mut Queue, pop: &sys::Pop) -> Result<(), Status> {
+    pub fn keep_windows(&mut self, queue: &mut Queue, pop: &sys::PopResult) -> Result<(), Status> {
         self.kept = None;
         match KeptWindows::of(self, pop) {
             Ok(kept) => {

@@ -19,7 +19,7 @@ use core::sync::atomic::{AtomicU64, Ordering};
 /// # fn main() -> Result<(), Status> {
 /// let device = Device::new(4096, Device::MIN_LIMIT)?;
 /// assert_eq!(device.options(), Options::empty(), "no INIT yet");
-/// assert_eq!(Device::new(1000, 0).err(), Some(Status::BadArgument));
+/// assert_eq!(Device::new(1000, 0).err(), Some(Status::BadDevice));
 ///
 /// // To another host: the record has device and queues, but no memory and no file.
 /// let layout = QueueLayout { size: 64, descriptors: 0x1000, available: 0x2000, used: 0x3000 };
@@ -62,13 +62,13 @@ impl Device {
     /// buffer is faulty.
     ///
     /// # Errors
-    /// `BadArgument`: the page size or the limit is out of range.
+    /// `BadDevice`: the page size or the limit is out of range.
     pub const fn new(page_size: u32, limit: u32) -> Result<Device, Status> {
         let is_page = page_size.is_power_of_two() && page_size >= 4096 && page_size <= 65536;
         if is_page && limit >= Device::MIN_LIMIT && limit <= Device::MAX_LIMIT {
             Ok(Device::of_numbers(page_size, limit))
         } else {
-            Err(Status::BadArgument)
+            Err(Status::BadDevice)
         }
     }
 
@@ -104,7 +104,8 @@ impl Device {
     /// positions and whether it is stopped, and the device's options, page size and limit.
     ///
     /// # Errors
-    /// - `BadArgument`: the number of queues, a queue that isn't set up, or unknown options.
+    /// - `BadArgument`: the number of queues, or unknown options.
+    /// - `BadQueueSize`: a queue isn't set up.
     /// - `ChainInFlight`: a chain of a queue is in flight.
     /// - `OutOfMemory`: an allocation failed.
     pub fn save(&self, queues: &[Queue]) -> Result<Vec<u8>, Status> {

@@ -74,7 +74,7 @@ pub(crate) struct KeptWindows {
 
 impl KeptWindows {
     /// The windows of the chain in flight, which has no others yet.
-    pub fn of(chain: &mut Chain, pop: &sys::Pop) -> Result<KeptWindows, Status> {
+    pub fn of(chain: &mut Chain, pop: &sys::PopResult) -> Result<KeptWindows, Status> {
         let mut windows = [Window::default(); WINDOWS];
         let request = Pieces::gather(pop.request_len, &mut windows, |from, len, windows| {
             chain.request_windows(from, len, windows).len()

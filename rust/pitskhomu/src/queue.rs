@@ -34,7 +34,8 @@ struct Seen {
 /// has at most one chain of the queue in flight. A worker loads the available index again once all
 /// chains before it were taken, after [`Queue::begin`], and after it got new regions.
 ///
-/// `Queue::default()` isn't set up: each call refuses it with [`Status::BadArgument`].
+/// `Queue::default()` isn't set up: a pop refuses it with [`Status::QueueNotBegun`], and other
+/// calls with [`Status::BadQueueSize`].
 ///
 /// # Examples
 /// ```
@@ -46,7 +47,7 @@ struct Seen {
 /// assert_eq!((queue.next_avail(), queue.in_flight()), (0, 0));
 ///
 /// let odd = QueueLayout { size: 63, ..layout };
-/// assert_eq!(Queue::new(odd, 0).err(), Some(Status::BadArgument));
+/// assert_eq!(Queue::new(odd, 0).err(), Some(Status::BadQueueSize));
 ///
 /// // The driver reset the device, and set the queue up again.
 /// queue.begin(Queue::new(layout, 7)?)?;
@@ -80,8 +81,9 @@ impl Queue {
     /// reset, or the position that another device reported. One chain may be in flight.
     ///
     /// # Errors
-    /// `BadArgument`: the size isn't a power of two up to 32768, an address isn't aligned, or a
-    /// part ends past the greatest address.
+    /// - `BadQueueSize`: the size isn't a power of two up to 32768.
+    /// - `BadQueueAlignment`: an address isn't aligned.
+    /// - `BadQueueEnd`: a part ends past the greatest address.
     pub fn new(layout: QueueLayout, next_avail: u16) -> Result<Queue, Status> {
         let QueueLayout { size, descriptors: desc, available: avail, used } = layout;
         let mut numbers = sys::Queue { desc, avail, used, size, ..fresh_numbers() };
@@ -130,10 +132,10 @@ impl Queue {
     /// The queue with up to `max_in_flight` chains in flight: one for each worker that serves it.
     ///
     /// # Errors
-    /// `BadArgument`: the number isn't from 1 to the queue's size.
+    /// `BadMaxInFlight`: the number isn't from 1 to the queue's size.
     pub fn with_max_in_flight(mut self, max_in_flight: u16) -> Result<Queue, Status> {
         if max_in_flight == 0 || max_in_flight > self.numbers.size {
-            return Err(Status::BadArgument);
+            return Err(Status::BadMaxInFlight);
         }
         self.numbers.max_in_flight = max_in_flight;
         Ok(self)
@@ -152,7 +154,7 @@ impl Queue {
     /// first each worker must [`abandon`](crate::Worker::abandon) its own.
     ///
     /// # Errors
-    /// `BadArgument`: `queue` isn't set up. This one stays as it was.
+    /// `BadQueueSize`: `queue` isn't set up. This one stays as it was.
     #[allow(clippy::needless_pass_by_value)] // afterwards there is one queue, not two
     pub fn begin(&mut self, queue: Queue) -> Result<(), Status> {
         let next_avail = queue.next_avail();

@@ -51,7 +51,7 @@ numbered! {
     /// use pitskhomu::{Queue, QueueLayout, Status};
     ///
     /// let refused = Queue::new(QueueLayout::default(), 0).unwrap_err();
-    /// assert_eq!((refused, refused.number()), (Status::BadArgument, 66));
+    /// assert_eq!((refused, refused.number()), (Status::BadQueueSize, 97));
     /// assert!(!refused.stops_queue() && Status::AvailTooFar.stops_queue());
     /// println!("{refused}");
     /// ```
@@ -76,8 +76,8 @@ numbered! {
         /// An allocation failed; call again later. The driver doesn't notify again for a chain that
         /// is available.
         OutOfMemory = 9, "out of memory";
-        /// A number that the call doesn't allow: of a queue, a device or regions.
-        BadArgument = 66, "a number that the queue, the device or the regions can't have";
+        /// Another number that the call doesn't allow, or a wrong length.
+        BadArgument = 66, "a number or a length that the call doesn't allow";
         /// The buffer is too short.
         ShortBuffer = 69, "the buffer is too short";
         /// 4 GiB of data or more, or more bytes than the reply buffer has.
@@ -118,6 +118,38 @@ numbered! {
         RecordOutOfMemory = 89, "out of memory for the record";
         /// A record of a device with another page size or limit.
         RecordMismatch = 90, "the record is of a device with another page size or limit";
+        /// The device's page size isn't a power of two from 4096 to 65536, or its limit isn't from
+        /// 0x101000 to 2^31.
+        BadDevice = 96, "the device's page size or limit is invalid";
+        /// A queue's size isn't a power of two up to 32768.
+        BadQueueSize = 97, "the queue's size isn't a power of two up to 32768";
+        /// The descriptor table isn't aligned to 16 bytes, the available ring to 2, or the used
+        /// ring to 4.
+        BadQueueAlignment = 98, "an address of the queue isn't aligned";
+        /// The descriptor table or a ring ends at 2^64 or later.
+        BadQueueEnd = 99, "a part of the queue ends past the last address";
+        /// More chains may be in flight than the queue has descriptors.
+        BadMaxInFlight = 100, "more chains may be in flight than the queue's size";
+        /// A queue whose event index is neither used nor unused. This crate makes none.
+        BadEventIndex = 101, "event_index is above 1";
+        /// A queue whose positions, stop or push are invalid. This crate makes none.
+        BadQueueState = 102, "the queue's state is invalid";
+        /// The queue isn't set up: it is `Queue::default()`.
+        QueueNotBegun = 103, "the queue isn't set up";
+        /// A region is empty.
+        EmptyRegion = 104, "a region is empty";
+        /// A region's host address isn't a multiple of 4096.
+        BadRegionHost = 105, "a region's host address isn't a multiple of 4096";
+        /// A region's guest address isn't a multiple of 4096.
+        BadRegionGuest = 106, "a region's guest address isn't a multiple of 4096";
+        /// A region's length isn't a multiple of 4096.
+        BadRegionLen = 107, "a region's length isn't a multiple of 4096";
+        /// A region ends past 2^64, in guest or host addresses.
+        BadRegionEnd = 108, "a region ends past the last address";
+        /// There are more than `Device::MAX_REGIONS` regions.
+        TooManyRegions = 109, "there are too many regions";
+        /// Two regions have a guest address in common.
+        RegionsOverlap = 110, "two regions overlap";
     }
 }
 

@@ -8,7 +8,7 @@ use crate::memory::{GuestRange as Range, Region, Window};
 use core::ffi::c_void;
 use core::mem::size_of;
 
-pub const VERSION: u32 = 0x10000;
+pub const VERSION: u32 = 0x20000;
 pub const REGIONS_MAX: usize = 64;
 pub const QUEUES_MAX: usize = 64;
 pub const FIRST: usize = 80;
@@ -23,14 +23,14 @@ const _: () = {
     assert!(size_of::<Region>() == 24);
     assert!(size_of::<Chain>() == 16);
     assert!(size_of::<LoadAhead>() == 16);
-    assert!(size_of::<Pop>() == 72);
+    assert!(size_of::<PopResult>() == 72);
     assert!(size_of::<Window>() == 16);
     assert!(size_of::<Range>() == 16);
     assert!(size_of::<Iotlb>() == 16);
     assert!(size_of::<Miss>() == 24);
     assert!(size_of::<Span>() == 8);
     assert!(size_of::<Attr>() == 88);
-    assert!(size_of::<Call>() == 320);
+    assert!(size_of::<Call>() == 312);
     assert!(size_of::<Entry>() == 128);
     assert!(size_of::<Statfs>() == 56);
     assert!(size_of::<Stores>() == 72);
@@ -180,7 +180,7 @@ pub struct Miss {
 
 #[repr(C)]
 #[derive(Clone, Copy, Debug, Default)]
-pub struct Pop {
+pub struct PopResult {
     pub load_at: usize,
     pub load_len: usize,
     pub request_len: u64,
@@ -234,7 +234,6 @@ pub struct Call {
     pub kind: u32,
     pub answer: u32,
     pub opcode: u32,
-    pub error: u32,
     pub fault: u32,
     pub unique: u64,
     pub uid: u32,
@@ -338,9 +337,10 @@ extern "C" {
     #[allow(dead_code)] // a worker's answers go to its own chain
     pub fn pk_chain_set_ticket(chain: &mut Chain, first: u32) -> u32;
     pub fn pk_pop(chain: &mut Chain, queue: &mut Queue, loaded: *const u8, loaded_len: usize,
-        pop: &mut Pop) -> u32;
+        pop: &mut PopResult) -> u32;
     pub fn pk_pop_ahead(chain: &mut Chain, queue: &mut Queue, ahead: *const LoadAhead,
-        ahead_count: usize, bytes: *const u8, bytes_len: usize, pop: &mut Pop) -> u32;
+        ahead_count: usize, bytes: *const u8, bytes_len: usize,
+        pop: &mut PopResult) -> u32;
     pub fn pk_queue_begin(queue: &mut Queue, next_avail: u16) -> u32;
     pub fn pk_abandon(chain: &mut Chain);
     pub fn pk_set_notification(chain: &mut Chain, queue: &Queue, enabled: u32,
@@ -350,7 +350,7 @@ extern "C" {
     pub fn pk_iotlb_map(iotlb: &mut Iotlb, iova: u64, len: u64, guest: u64, access: u32) -> u32;
     pub fn pk_iotlb_unmap(iotlb: &mut Iotlb, iova: u64, len: u64) -> u32;
     pub fn pk_chain_exchange_iotlb(chain: &mut Chain, iotlb: &mut Iotlb) -> u32;
-    pub fn pk_miss(chain: &mut Chain, index: usize, from: u64, miss: &mut Miss) -> u32;
+    pub fn pk_find_miss(chain: &mut Chain, index: usize, from: u64, miss: &mut Miss) -> u32;
     pub fn pk_uses(chain: &mut Chain, iova: u64, len: u64) -> u8;
     pub fn pk_drop(chain: &mut Chain, queue: &mut Queue) -> u32;
     pub fn pk_request_windows(chain: &mut Chain, from: u64, len: u64, windows: *mut Window,

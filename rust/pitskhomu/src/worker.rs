@@ -149,7 +149,7 @@ pub struct Worker {
     front: [u8; sys::FRONT_MAX],
     /// The number of the chain that it has, or had last.
     id: RequestId,
-    pop: sys::Pop,
+    pop: sys::PopResult,
     call: sys::Call,
     replied: Replied,
     /// The bytes of the reply buffer.
@@ -210,7 +210,7 @@ impl Worker {
             nodes: Vec::new(),
             front: [0; sys::FRONT_MAX],
             id: RequestId::default(),
-            pop: sys::Pop::default(),
+            pop: sys::PopResult::default(),
             call: sys::Call::default(),
             replied: Replied::Whole,
             counts: Counts::default(),
@@ -241,7 +241,9 @@ impl Worker {
     ///
     /// # Errors
     /// An error leaves the regions unchanged.
-    /// - `BadArgument`: too many regions, or one that isn't allowed.
+    /// - `EmptyRegion`, `BadRegionHost`, `BadRegionGuest`, `BadRegionLen`, `BadRegionEnd`: of the
+    ///   first region that isn't allowed.
+    /// - `TooManyRegions`, `RegionsOverlap`.
     /// - `ChainInFlight`: the worker has a chain.
     /// - `OutOfMemory`: an allocation failed.
     pub fn set_memory(&mut self, device: &Device, regions: &[Region]) -> Result<(), Status> {
@@ -267,7 +269,7 @@ impl Worker {
     /// - Those of `Status::stops_queue`: set `DEVICE_NEEDS_RESET`.
     /// - `OutOfMemory`: an allocation failed. The chain is still available, and the driver doesn't
     ///   notify again.
-    /// - `BadArgument`: the queue isn't set up.
+    /// - `QueueNotBegun`: the queue isn't set up.
     /// - `WrongOrder`: no memory was set. The worker keeps a chain whose reply object isn't
     ///   answered.
     /// - `ChainInFlight`: other workers have `Queue::max_in_flight` chains of the queue.
@@ -407,7 +409,7 @@ impl Worker {
         memory: &dyn GuestMemory,
         is_lent: bool,
     ) -> Result<PopStep, Status> {
-        self.pop = sys::Pop::default();
+        self.pop = sys::PopResult::default();
         let mut is_first = true;
         if !is_lent {
             match self.pop_ahead(queue, memory)? {
@@ -451,7 +453,7 @@ impl Worker {
     /// A load of a pop. Two bytes are a ring's index, entry or flags, or the part of a table's
     /// entry before a region's end. In each case their address is even.
     fn load(&mut self, memory: &dyn GuestMemory) -> Result<(), Status> {
-        let sys::Pop { load_at: at, load_len: len, .. } = self.pop;
+        let sys::PopResult { load_at: at, load_len: len, .. } = self.pop;
         grow(&mut self.loaded, len)?;
         match &mut self.loaded[..len] {
             bytes @ [_, _] => bytes.copy_from_slice(&memory::load_u16(memory, at).to_le_bytes()),

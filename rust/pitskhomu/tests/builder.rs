@@ -158,13 +158,13 @@ fn memory_is_set_for_the_next_chains() {
         serving.set_memory(there, &[region]).unwrap();
         let (odd, region) = moved(0x1000);
         let overlap = [region, region];
-        assert_eq!(serving.set_memory(odd, &overlap), Err(Status::BadArgument));
+        assert_eq!(serving.set_memory(odd, &overlap), Err(Status::RegionsOverlap));
         driver.offer(k as u16, &lookup(), 144);
         until(|| count() == k + 1);
     }
     // No worker is idle now.
     let (odd, region) = moved(0x1000);
-    assert_eq!(serving.set_memory(odd, &[region, region]), Err(Status::BadArgument));
+    assert_eq!(serving.set_memory(odd, &[region, region]), Err(Status::RegionsOverlap));
     // The first three memories are kept by chains in flight, the last one by the queue too.
     assert_eq!(Arc::strong_count(&memory), 2 + 4, "ours, the driver's and those of four workers");
     let mut replies = std::mem::take(&mut *kept.lock().unwrap());

@@ -91,7 +91,7 @@ fn one_of_three() -> Guest {
 fn a_queue_that_begins_anew_is_loaded_anew() {
     let mut guest = one_of_three();
     let position = guest.queue.next_avail();
-    assert_eq!(guest.queue.begin(Queue::default()), Err(Status::BadArgument));
+    assert_eq!(guest.queue.begin(Queue::default()), Err(Status::BadQueueSize));
     assert!(guest.queue.knows_more(), "it is as it was");
     guest.queue.begin(Queue::new(layout(), position).unwrap()).unwrap();
     assert_eq!((pop(&mut guest), loads(&guest)), (Ok(false), 1));
@@ -146,7 +146,7 @@ fn a_ring_without_a_chain_is_refused_too() {
     let wrong = other.pop(&mut guest.queue, &guest.memory);
     assert_eq!(wrong, Err(Status::WrongOrder), "no memory was set");
     other.set_memory(&guest.device, &[region]).unwrap();
-    assert_eq!(other.pop(&mut Queue::default(), &guest.memory), Err(Status::BadArgument));
+    assert_eq!(other.pop(&mut Queue::default(), &guest.memory), Err(Status::QueueNotBegun));
     offer(&mut guest, 1);
     assert_eq!(other.pop(&mut guest.queue, &guest.memory), Ok(true));
     assert_eq!(pop(&mut guest), Err(Status::ChainInFlight));

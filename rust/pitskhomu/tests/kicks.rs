@@ -101,6 +101,6 @@ fn rings_that_do_not_reach_behind_their_ends() {
     );
     assert_eq!(
         guest.worker.set_notification(&Queue::default(), true, &guest.memory),
-        Err(Status::BadArgument)
+        Err(Status::BadQueueSize)
     );
 }

@@ -424,7 +424,7 @@ fn memory_changes_meanwhile() {
         run(&mut driver, 50, 4);
     }
     let odd = Region { len: 100, ..region() };
-    assert_eq!(serving.set_memory(memory.clone(), &[odd]), Err(Status::BadArgument));
+    assert_eq!(serving.set_memory(memory.clone(), &[odd]), Err(Status::BadRegionLen));
     run(&mut driver, 50, 4);
     assert_eq!(serving.refused(), None);
 }
@@ -441,7 +441,7 @@ fn wrong_numbers_are_refused() {
         Arc::new(Files),
     );
     match refused {
-        Err(live::Error::Status(Status::BadArgument)) => {}
+        Err(live::Error::Status(Status::BadRegionLen)) => {}
         other => panic!("{other:?}"),
     }
 }

@@ -185,7 +185,10 @@ fn numbers_are_those_of_the_header() {
         OtherKind 75, ChainInFlight 76, NotMapped 77, Pushing 78, OtherCall 79, OtherTable 80,
         RecordTruncated 81, RecordBadMagic 82, RecordBadVersion 83, RecordBadCount 84,
         RecordBadReserved 85, RecordBadQueue 86, RecordBadOptions 87, RecordOutOfMemory 89,
-        RecordMismatch 90,
+        RecordMismatch 90, BadDevice 96, BadQueueSize 97, BadQueueAlignment 98, BadQueueEnd 99,
+        BadMaxInFlight 100, BadEventIndex 101, BadQueueState 102, QueueNotBegun 103,
+        EmptyRegion 104, BadRegionHost 105, BadRegionGuest 106, BadRegionLen 107, BadRegionEnd 108,
+        TooManyRegions 109, RegionsOverlap 110,
     ]);
     check(&numbers![Fault
         TooLong 1, NextOutOfTable 2, AddressOverflow 3, IndirectWithNext 4, IndirectNested 5,

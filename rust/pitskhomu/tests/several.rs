@@ -176,7 +176,7 @@ fn a_queue_that_begins_anew_refuses_its_chains() {
     let first = guest.queue.next_avail();
     assert_eq!(pop(&mut guest, &mut workers[0]), Ok(true));
     workers[0].answer(&guest.device, &recorder, &guest.memory).unwrap();
-    assert_eq!(guest.queue.begin(Queue::default()), Err(Status::BadArgument));
+    assert_eq!(guest.queue.begin(Queue::default()), Err(Status::BadQueueSize));
     assert_eq!(guest.queue.in_flight(), 1);
     // The same numbers, from the same position on.
     guest.queue.begin(Queue::new(layout(), first).unwrap().with_max_in_flight(2).unwrap()).unwrap();

@@ -480,7 +480,7 @@ impl Play {
         MOST.with(|cell| cell.set(usize::MAX));
         match (seat.phase, fails) {
             (_, 2) => assert_eq!(set, Err(Status::OutOfMemory)),
-            (Phase::Free, 1) => assert_eq!(set, Err(Status::BadArgument)),
+            (Phase::Free, 1) => assert_eq!(set, Err(Status::RegionsOverlap)),
             (Phase::Free, _) => {
                 assert_eq!(set, Ok(()));
                 (seat.view, seat.had_table) = (view, false);

@@ -154,7 +154,7 @@ fn kinds_of_files() {
 
 #[test]
 fn the_archive_is_of_this_header() {
-    assert_eq!((version(), VERSION >> 16, VERSION & 0xffff), (VERSION, 1, 0));
+    assert_eq!((version(), VERSION >> 16, VERSION & 0xffff), (VERSION, 2, 0));
     assert_eq!((Device::MAX_REGIONS, Device::MAX_QUEUES, Device::MIN_LIMIT), (64, 64, 0x101000));
     assert_eq!((Node::ROOT, Attributes::SUBMOUNT, Attributes::DAX), (Node(1), 1, 2));
 }
@@ -187,7 +187,7 @@ fn a_device_is_saved_and_restored() {
 fn records_that_are_refused() {
     let device = Device::default();
     assert_eq!(device.save(&[]), Err(Status::BadArgument));
-    assert_eq!(device.save(&[Queue::default()]), Err(Status::BadArgument));
+    assert_eq!(device.save(&[Queue::default()]), Err(Status::BadQueueSize));
     let many = |count| (0..count).map(|_| queues().remove(0)).collect::<Vec<_>>();
     assert_eq!(device.save(&many(65)), Err(Status::BadArgument));
     let most = device.restore(&device.save(&many(64)).unwrap()).unwrap();
@@ -219,7 +219,7 @@ fn devices_and_queues_of_bad_numbers_are_refused() {
     ];
     for (page_size, limit) in devices {
         let refused = Device::new(page_size, limit).err();
-        assert_eq!(refused, Some(Status::BadArgument), "{page_size} {limit}");
+        assert_eq!(refused, Some(Status::BadDevice), "{page_size} {limit}");
     }
     for (page_size, limit) in [(4096, Device::MIN_LIMIT), (65536, Device::MAX_LIMIT)] {
         let device = Device::new(page_size, limit).unwrap();
@@ -228,17 +228,17 @@ fn devices_and_queues_of_bad_numbers_are_refused() {
     }
     let layout = QueueLayout { size: 64, descriptors: 0x10000, available: 0x11000, used: 0x12000 };
     let layouts = [
-        QueueLayout { size: 0, ..layout },
-        QueueLayout { size: 3, ..layout },
-        QueueLayout { size: 32769, ..layout },
-        QueueLayout { descriptors: 8, ..layout },
-        QueueLayout { available: 1, ..layout },
-        QueueLayout { used: 2, ..layout },
-        QueueLayout { used: u64::MAX - 3, ..layout },
-        QueueLayout::default(),
+        (QueueLayout { size: 0, ..layout }, Status::BadQueueSize),
+        (QueueLayout { size: 3, ..layout }, Status::BadQueueSize),
+        (QueueLayout { size: 32769, ..layout }, Status::BadQueueSize),
+        (QueueLayout { descriptors: 8, ..layout }, Status::BadQueueAlignment),
+        (QueueLayout { available: 1, ..layout }, Status::BadQueueAlignment),
+        (QueueLayout { used: 2, ..layout }, Status::BadQueueAlignment),
+        (QueueLayout { used: u64::MAX - 3, ..layout }, Status::BadQueueEnd),
+        (QueueLayout::default(), Status::BadQueueSize),
     ];
-    for layout in layouts {
-        assert_eq!(Queue::new(layout, 0).err(), Some(Status::BadArgument), "{layout:?}");
+    for (layout, status) in layouts {
+        assert_eq!(Queue::new(layout, 0).err(), Some(status), "{layout:?}");
     }
     for (max_in_flight, is_taken) in [(0, false), (1, true), (64, true), (65, false)] {
         let queue = Queue::new(layout, 0).unwrap().with_max_in_flight(max_in_flight);

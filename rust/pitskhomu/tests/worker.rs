@@ -92,7 +92,7 @@ fn calls_without_memory_or_with_bad_numbers_are_refused() {
     assert_eq!(fresh, Err(Status::WrongOrder));
     let mut queue = Queue::default();
     let served = guest.worker.serve(&mut queue, &guest.device, &recorder, &guest.memory);
-    assert_eq!(served, Err(Status::BadArgument));
+    assert_eq!(served, Err(Status::QueueNotBegun));
     assert_eq!(
         guest.worker.answer(&guest.device, &recorder, &guest.memory),
         Err(Status::WrongOrder),
@@ -100,17 +100,17 @@ fn calls_without_memory_or_with_bad_numbers_are_refused() {
     );
     let region = Region { guest: 0, len: 0x1000, host: 0 };
     let bad_regions = [
-        vec![region, region],
-        vec![Region { len: 0, ..region }],
-        vec![Region { host: 1, ..region }],
-        vec![region; 65],
+        (vec![region, region], Status::RegionsOverlap),
+        (vec![Region { len: 0, ..region }], Status::EmptyRegion),
+        (vec![Region { host: 1, ..region }], Status::BadRegionHost),
+        (vec![Region { guest: 0x800, ..region }], Status::BadRegionGuest),
+        (vec![Region { len: 0x1800, ..region }], Status::BadRegionLen),
+        (vec![Region { guest: !0xfff, len: 0x2000, host: 0 }], Status::BadRegionEnd),
+        (vec![region; 65], Status::TooManyRegions),
     ];
-    for regions in bad_regions {
-        assert_eq!(
-            guest.worker.set_memory(&guest.device, &regions),
-            Err(Status::BadArgument),
-            "{regions:?}"
-        );
+    for (regions, status) in bad_regions {
+        let refused = guest.worker.set_memory(&guest.device, &regions);
+        assert_eq!(refused, Err(status), "{regions:?}");
     }
     // The regions stay as they were.
     assert_eq!(guest.ask(&recorder, 1, 1, args().bytes(HELLO), 144).data().len(), 128);

@@ -113,7 +113,7 @@ impl Worker {
         front: usize,
         memory: &'a dyn GuestMemory,
     ) -> Exchange<'a> {
-        let sys::Pop { request_len, reply_len: room_len, .. } = self.pop;
+        let sys::PopResult { request_len, reply_len: room_len, .. } = self.pop;
         self.call.opcode = exchange::opcode(&self.request[..front]);
         self.call.unique = exchange::unique(&self.request[..front]);
         let (chain, front) = (&mut self.chain, &self.request[..front]);

@@ -164,7 +164,7 @@ impl Worker {
     /// All misses of the pop that has just ended: its first, and those of the buffers of the
     /// descriptors that it gathered.
     pub(super) fn gather_misses(&mut self) -> Result<(), Status> {
-        let sys::Pop { miss_at: at, miss_len: len, miss_access: access, .. } = self.pop;
+        let sys::PopResult { miss_at: at, miss_len: len, miss_access: access, .. } = self.pop;
         self.miss(sys::Miss { at, len, access })?;
         let (mut index, mut from) = (0, 0);
         while self.misses.len() < MISSES {

@@ -123,7 +123,7 @@ impl Worker {
     ///
     /// # Errors
     /// - `WrongOrder`: no memory was set.
-    /// - `BadArgument`: the queue isn't set up.
+    /// - `BadQueueSize`: the queue isn't set up.
     /// - `NotMapped`: the flags, or `avail_event`, aren't in the worker's regions.
     pub fn set_notification(
         &mut self,

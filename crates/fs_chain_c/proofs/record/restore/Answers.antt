@@ -1,6 +1,6 @@
-use Rattle.std.proofs.Common.{◌≡◌, List, false, true, refl, rules, subst, sym}
+use Rattle.std.proofs.Common.{◌≡◌, List, refl, rules, subst}
 use Rattle.fs_queue.specs.Queue.{Queue}
-use Rattle.fs_chain_c.specs.Records.{FitRecord, Restored, TooFewQueues, UnfitQueues, NoRecord}
+use Rattle.fs_chain_c.specs.Records.{FitRecord, HasUnfit, Restored, TooFewQueues, UnfitQueues, NoRecord}
 use Rattle.fs_chain_c.proofs.record.restore.Goals as goal
 
 pub returns-then-len-queues : goal.returns-then-len-queues
@@ -17,27 +17,24 @@ returns-then-len-queues c = (
   ),
 )
 
-pub returns-then-not-fit_record : goal.returns-then-not-fit_record
-returns-then-not-fit_record c =
-    let no : c.fit_record.result ≡ false = search rules in
+pub returns-in-Some : goal.returns-in-Some
+returns-in-Some c =
     let read : c.deref.result.now ≡ c.in-Ok.restored.items = search rules in (
-      UnfitQueues c.in-Ok.options.0 c.in-Ok.restored.items,
-      search rules,
+      UnfitQueues c.in-Ok.options.0 c.in-Ok.restored.items c.in-Some.status,
+      refl,
       (
         search rules,
         (c.in-Ok.ensures.ok.0, c.restore_record.new.source.0.now, search rules, c.in-Ok.ensures.ok.2),
         refl,
         search rules,
-        λ fit.
-            c.fit_record.ensures.none no (subst (λ (l : List Queue). FitRecord c.args.queues.now l) (sym read) fit),
+        subst (λ (l : List Queue). HasUnfit c.args.queues.now l c.in-Some.status) read (search rules),
         refl,
         refl,
       ),
     )
 
-pub returns-else-not-fit_record : goal.returns-else-not-fit_record
-returns-else-not-fit_record c =
-    let yes : c.fit_record.result ≡ true = search rules in
+pub returns-in_default : goal.returns-in_default
+returns-in_default c =
     let read : c.deref.result.now ≡ c.in-Ok.restored.items = search rules in (
       Restored c.in-Ok.options.0 c.in-Ok.restored.items,
       refl,
@@ -48,7 +45,7 @@ returns-else-not-fit_record c =
         search rules,
         search rules,
         search rules,
-        subst (λ (l : List Queue). FitRecord c.args.queues.now l) read (c.fit_record.ensures.fit yes),
+        subst (λ (l : List Queue). FitRecord c.args.queues.now l) read (c.in_default.ensures.fit refl),
       ),
     )
 

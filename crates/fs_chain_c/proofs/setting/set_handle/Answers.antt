@@ -2,4 +2,4 @@ use Rattle.std.proofs.Common.{rules, inr}
 use Rattle.fs_chain_c.proofs.setting.set_handle.Goals as goal
 
 pub returns-in-Err : goal.returns-in-Err
-returns-in-Err c = inr (c.in-Err.error, search rules, c.in-Err.ensures.refused, search rules)
+returns-in-Err c = inr (c.in-Err.refusal, search rules, c.in-Err.ensures.refused, search rules)

@@ -1,7 +1,7 @@
 use Rattle.std.proofs.Common.{All, take}
 use Rattle.fs_chain_c.specs.Queues.{IsQueue}
 use Rattle.fs_chain_c.specs.Records.{HasNoneOut}
-use Rattle.fs_chain_c.proofs.record.check_queues.Given as goal
+use Rattle.fs_chain_c.proofs.record.queues_refusal.Given as goal
 
 -- each that was looked at is one and has no chain out
 abbrev pub invariant-loop-queue : goal.invariant-loop-queue

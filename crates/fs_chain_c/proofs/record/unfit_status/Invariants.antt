@@ -1,6 +1,6 @@
 use Rattle.std.proofs.Common.{◌≤◌, length}
-use Rattle.fs_chain_c.proofs.QueueLemmas.{FitBefore}
-use Rattle.fs_chain_c.proofs.record.fit_record.Given as goal
+use Rattle.fs_chain_c.specs.Records.{FitBefore}
+use Rattle.fs_chain_c.proofs.record.unfit_status.Given as goal
 
 -- those that were looked at fit
 abbrev pub invariant-loop-k : goal.invariant-loop-k

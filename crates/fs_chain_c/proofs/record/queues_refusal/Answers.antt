@@ -4,12 +4,12 @@ use Rattle.std.proofs.lemmas.List.Elements.{All-more}
 use Rattle.fs_chain_c.specs.Queues.{IsQueue}
 use Rattle.fs_chain_c.specs.Records.{HasNoneOut}
 use Rattle.fs_chain_c.proofs.RecordLemmas.{first_refused, no_numbers}
-use Rattle.fs_chain_c.proofs.record.check_queues.Goals as goal
+use Rattle.fs_chain_c.proofs.record.queues_refusal.Goals as goal
 
-pub returns-in-Err-clause-why : goal.returns-in-Err-clause-why
-returns-in-Err-clause-why c =
+pub returns-in-Some-clause-refused : goal.returns-in-Some-clause-refused
+returns-in-Some-clause-refused c =
     let at = get_or c.args.queues.now c.loop-queue.queue-index no_numbers in
-    first_refused c.args.queues.now c.loop-queue.queue-index at c.in-Err.error c.loop-queue-test.true
+    first_refused c.args.queues.now c.loop-queue.queue-index at c.in-Some.why c.loop-queue-test.true
     (get_or_default c.args.queues.now c.loop-queue.queue-index no_numbers at c.loop-queue-test.true) c.loop-queue.invariant.0
     c.loop-queue.invariant.1 (search rules)
 
@@ -22,9 +22,9 @@ loop-queue-preserved c =
     )
 
 pub returns-clause-are : goal.returns-clause-are
-returns-clause-are c =
+returns-clause-are c _ =
     rw (take_all c.loop-queue.queue-index c.args.queues.now (omega (arith, c.loop-queue-test.false))) at c.loop-queue.invariant.0
 
 pub returns-clause-none_out : goal.returns-clause-none_out
-returns-clause-none_out c =
+returns-clause-none_out c _ =
     rw (take_all c.loop-queue.queue-index c.args.queues.now (omega (arith, c.loop-queue-test.false))) at c.loop-queue.invariant.1
