@@ -11,8 +11,8 @@
  *  1. a thread holds the lock from the call of an event until the library returns an action that
  *     releases it;
  *  2. an event says what happened: see each function;
- *  3. each thread performs its actions, and the events that wake threads (an eventfd) aren't lost
- *     between two waits;
+ *  3. each thread performs its actions; an event for the threads (an eventfd) isn't lost between
+ *     two waits, and a thread that takes it calls pk_turn_woken next;
  *  4. a thread whose answer comes after its chain began to wait first adds the chain to those that
  *     wait for a thread, and then signals the threads' event;
  *  5. the driver keeps VIRTIO 1.2, 2.7.13 and 2.7.14. */
@@ -97,7 +97,7 @@ uint32_t pk_turn_not_armed(struct pk_turns *turns) PK_CHECK(1);
  * loaded for this. */
 uint32_t pk_turn_more(struct pk_turns *turns) PK_CHECK(1);
 uint32_t pk_turn_no_more(struct pk_turns *turns) PK_CHECK(1);
-/* Notifications are disabled. */
+/* Notifications are disabled, or couldn't be. */
 uint32_t pk_turn_muted(struct pk_turns *turns) PK_CHECK(1);
 
 #ifdef __cplusplus

@@ -82,15 +82,15 @@ HasMuted q w None = HasEventIndex (live_of q)
 HasMuted q w (Some store) =
     LacksEventIndex (live_of q)
     × (store.address ≡ wish_at q)
-    × ShowsWish q store.bytes (done w Muted false).event (done w Muted false).muted
+    × ShowsWish q store.bytes (done w Muted true).event (done w Muted true).muted
 
 abbrev pub MuteReports : Type 0
 MuteReports =
     (q : QueueState) (w : World)
     → IsWorldOf q w
     → HasMuted q w (notification_store q false)
-    × IsTrue (may_report (ways_of q) Mutes w Muted false)
-    × IsWorldOf q (done w Muted false)
+    × IsTrue (may_report (ways_of q) Mutes w Muted true)
+    × IsWorldOf q (done w Muted true)
 
 -- a chain that is given up is dropped, as EntersDropping has it
 abbrev pub DropReports : Type 0

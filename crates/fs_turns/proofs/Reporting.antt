@@ -206,7 +206,7 @@ looking size most b w o p c _ fresh comes walk k at may = absurd (true_false fal
 muting : (size most : ℕ) (b : Bool) (w : World) (o p : Bool) (c : ℕ) (e : TurnEvent) (fresh comes : Bool) → Walks b w o p c
     → Kept b most w → w.turns.phase ≡ Mutes → is_muted e ≡ true
     → Goes size most b (reports_at (right_ways size most b) Mutes (done w e fresh) e comes) (model_of w o p c Walker)
-muting size most b w o p c Muted fresh comes walk k at may =
+muting size most b w o p c Muted true comes walk k at may =
     let quiet = record w { muted = true } in
     let less = k.mutes at in
     acts size most b (settles quiet (leaves w.turns act.Answer false)) (model_of w o p c Walker) (Silences w.event) refl
@@ -222,6 +222,21 @@ muting size most b w o p c Muted fresh comes walk k at may =
       crowd = walk.crowd;
       due = walk.due;
     }) (inl less.1) (k.rests (ap is_resuming at)))
+muting size most b w o p c Muted false comes walk k at may =
+    let quiet = record w { muted = w.muted } in
+    let less = k.mutes at in
+    quiet_leaves size most b quiet o p c (record {
+      mode = walk.mode;
+      sleeping = walk.sleeping;
+      called = walk.called;
+      unstored = walk.unstored;
+      unhidden = walk.unhidden;
+      notifications = subst (λ (q : Notifications). IsSo b q w.event w.muted w.hidden) (sym less.0) tt;
+      debt = walk.debt;
+      signal = walk.signal;
+      crowd = walk.crowd;
+      due = walk.due;
+    }) (inl less.1) (k.rests (ap is_resuming at))
 muting size most b w o p c _ fresh comes walk k at may = absurd (true_false false may refl)
 
 -- by the phase

@@ -86,9 +86,8 @@ pub data Move : Type 0 where
   Interrupts : Move
   -- the lock's holder makes the store that enables notifications
   StoresWish : Move
-  -- the lock's holder performs its action, and reports the event. `fresh`: it has loaded the index. `comes`:
-  -- it saw
-  -- that another thread waits for the lock
+  -- the lock's holder performs its action, and reports the event. `fresh`: it has loaded the index, or made
+  -- the store that disables notifications. `comes`: it saw that another thread waits for the lock
   Reports : (event : TurnEvent) → (fresh : Bool) → (comes : Bool) → Move
 
 abbrev pub is_arming : TurnPhase → Bool
@@ -145,7 +144,7 @@ done w (Idle polls) fresh = record w { known = w.index }
 done w Later fresh = record w { known = if fresh then w.index else w.known }
 done w Armed fresh = record w { stored = false }
 done w NoMore fresh = record w { known = w.index }
-done w Muted fresh = record w { muted = true }
+done w Muted fresh = record w { muted = fresh || w.muted }
 done w _ fresh = w
 
 abbrev pub after_action : World → (wakes : Bool) → TurnAction → World
