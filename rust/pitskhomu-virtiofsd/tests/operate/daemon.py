@@ -46,7 +46,7 @@ class Daemon:
             program, options = prepare(self, program, options, more)
         self.words = [*program, f"--socket-path={self.socket}", f"--shared-dir={self.shared}",
             *options]
-        self.more, self.known = more, []
+        self.more, self.known, self.fronts = more, [], []
         self.start()
 
     def start(self):
@@ -63,6 +63,8 @@ class Daemon:
             with suppress(ProcessLookupError):
                 os.kill(pid, signal.SIGKILL)
         self.process.wait(PATIENCE)
+        for front in self.fronts:
+            front.close()
         if self.group:
             self.group.remove()
         shutil.rmtree(self.folder, ignore_errors=True)
@@ -83,6 +85,7 @@ class Daemon:
     def front(self, patience=PATIENCE):
         """A connected front-end."""
         front = Front(self.connect(), patience)
+        self.fronts.append(front)
         self.remember()
         return front
 

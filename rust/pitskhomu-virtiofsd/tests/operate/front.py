@@ -8,6 +8,7 @@ import socket
 import struct
 import threading
 import time
+from contextlib import suppress
 
 # Messages (QEMU, docs/interop/vhost-user.rst) and protocol features.
 GET_FEATURES, SET_FEATURES, SET_OWNER, SET_MEM_TABLE = 1, 2, 3, 5
@@ -164,13 +165,14 @@ class Front:
 
     def sleep(self):
         """Until the driver is interrupted, for a moment at most: another thread may hear of it."""
-        ready = select.select([self.call, self.socket], [], [], 0.02)[0]
+        events = select.poll()
+        for descriptor in (self.call, self.socket.fileno()):
+            events.register(descriptor, select.POLLIN)
+        ready = dict(events.poll(20))
         if self.call in ready:
-            try:
+            with suppress(BlockingIOError):
                 os.eventfd_read(self.call)
-            except BlockingIOError:
-                pass
-        if self.socket in ready and not self.socket.recv(1, socket.MSG_PEEK):
+        if self.socket.fileno() in ready and not self.socket.recv(1, socket.MSG_PEEK):
             raise Lost("the connection ended")
 
     def ask(self, opcode, node=ROOT, body=b"", slot=0):
@@ -210,3 +212,11 @@ class Front:
 
     def leave(self):
         self.socket.close()
+
+    def close(self):
+        """Leaves, and gives back what it has."""
+        self.socket.close()
+        self.words.release()
+        self.memory.close()
+        for descriptor in (self.file, self.kick, self.call, self.err):
+            os.close(descriptor)

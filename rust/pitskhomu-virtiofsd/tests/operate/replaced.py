@@ -22,7 +22,7 @@ class New(Daemon):
     """A daemon that takes over from another."""
 
     def __init__(self, program, old): # pylint: disable=super-init-not-called
-        self.folder, self.log = old.folder + "/new", old.log
+        self.folder, self.log, self.fronts = old.folder + "/new", old.log, []
         words = [*program, f"--take-over={old.folder}/control", f"--shared-dir={old.shared}"]
         with open(self.log, "a", encoding="utf-8") as log:
             self.process = subprocess.Popen([*words, *OPTIONS], stdin=subprocess.DEVNULL,
