@@ -1,7 +1,7 @@
 /* No chain waits for another's answer while a thread of the queue sleeps:
  *     slow COUNT [THREADS [event]]
  * In each round as many chains as threads come, some at once and others one by one. Each is
- * answered only once all of them are with a thread. So a chain that no thread gets stays for ever. */
+ * answered only once each thread has one, so that a chain that no thread gets is found. */
 #define _DEFAULT_SOURCE
 #include "driver.h"
 #include <linux/fuse.h>
