@@ -162,7 +162,7 @@ fn want_kicks(
     server: &mut impl Server,
     memory: &Arc<Table>,
 ) -> Result<bool, Status> {
-    state.tell(true, |state| server.set_notification(&state.queue, true, memory))
+    state.enable_notifications(|state| server.set_notification(&state.queue, true, memory))
 }
 
 /// Interrupts the driver, if an interrupt is owed.

@@ -2,10 +2,10 @@
 //! driver notifies, over two event descriptors (eventfd), as KVM's ioeventfd and irqfd and
 //! vhost-user have them.
 //!
-//! A thread pops and pushes chains under the queue's lock, and answers them without it. It keeps
-//! the rules by which no notification is lost (pitskhomu.h, NOTIFICATIONS): with an event index or
-//! without, it enables the driver's notifications again before it sleeps and while another thread
-//! sleeps, looks for chains once more after that, and hands on a chain that it can't take itself.
+//! A thread pops and pushes chains under the queue's lock, and answers them without it. The library
+//! decides what it does next (`pitskhomu_turns.h`): when it enables the driver's notifications,
+//! sleeps, or wakes another thread. It is proved that threads that do so lose no chain and no
+//! answer, with an event index or without. That these threads do so is tested.
 //!
 //! An answer may come later ([`Builder::start_by_values`]): then the chain waits with a worker of
 //! its own, and the thread goes on. So more chains may be in flight than there are threads
@@ -80,6 +80,7 @@
 //! ```
 mod events;
 mod loops;
+mod machine;
 mod seats;
 mod settling;
 mod turns;
@@ -475,7 +476,10 @@ impl Serving {
     /// of the driver are enabled then, unless the queue was refused.
     pub fn stop(mut self) -> Queue {
         self.end(false);
-        core::mem::take(&mut self.shared.threads.lock().queue)
+        let mut state = self.shared.threads.lock();
+        // if the memory panics, the next device enables them
+        let _ = catch_unwind(AssertUnwindSafe(|| self.shared.enable_notifications(&mut state)));
+        core::mem::take(&mut state.queue)
     }
 
     /// Stops as `stop` does, if all chains in flight are pushed within this time. None is popped
@@ -506,6 +510,7 @@ impl Serving {
         state.is_reset |= is_reset;
         drop(state);
         self.shared.threads.look();
+        self.shared.threads.notify_waiting(); // a thread may wait for a moment
         for thread in self.threads.drain(..) {
             let _ = thread.join(); // it doesn't panic
         }

@@ -1,6 +1,6 @@
-//! The declarations of pitskhomu.h, and at the end of pitskhomu_turns.h, in their order, with their
-//! names (without `pk_` and `PK_`). The headers document them. The script `tools/declared` compares
-//! the two.
+//! The declarations of `pitskhomu.h`, and at the end of `pitskhomu_turns.h`, in their order, with
+//! their names (without `pk_` and `PK_`). The headers document them. The script `tools/declared`
+//! compares the two.
 // The numbers and fields are written as the header has them.
 #![allow(clippy::unreadable_literal, clippy::struct_field_names)]
 

@@ -1,5 +1,7 @@
 //! A queue under its lock, and what its threads and its device do with it.
 use super::events::Events;
+use super::machine::Turns;
+use super::turns::Thread;
 use crate::queue::Queue;
 use crate::status::Status;
 use crate::worker::Popped;
@@ -64,15 +66,16 @@ pub trait Server<Q> {
     /// for; else forget what the IOMMU refused.
     fn looks(&mut self, _queued: &Q, _is_same: bool) {}
 
-    /// Takes up a chain that waited for its answer, if one has it by now. The default has no such
-    /// chain.
-    fn resumes(&mut self, _queued: &mut Q) -> bool {
+    /// Whether a chain that waited has its answer by now. Then `resumes` is called, and if another
+    /// one has its answer, too, a sleeping thread is woken for it: two answers that come close
+    /// together may wake one thread. Who answers a chain calls [`Loop::look`] after this is true.
+    /// The default has no such chain. A server whose chains wait implements both methods.
+    fn has_answered(&mut self, _queued: &Q) -> bool {
         false
     }
 
-    /// Whether another chain that waited has its answer by now. Then a sleeping thread is woken for
-    /// it: two answers that come close together may wake one thread. The default has no such chain.
-    fn has_answered(&mut self, _queued: &Q) -> bool {
+    /// Takes up a chain that waited for its answer, if one has it by now.
+    fn resumes(&mut self, _queued: &mut Q) -> bool {
         false
     }
 
@@ -109,7 +112,6 @@ pub trait Server<Q> {
     ///
     /// # Errors
     /// - `NotMapped`: the table of the IOMMU lacks the page, and `ask` is called.
-    /// - `ChainInFlight`: there is no worker for it. Who returns a chain looks again.
     /// - After any other it is tried again in a moment.
     ///
     /// [`Worker::set_notification`]: crate::Worker::set_notification
@@ -147,13 +149,9 @@ pub struct Locked<Q> {
     pub(super) kick: Option<File>,
     /// The number of events of the driver's so far, which is that of the last one.
     pub(super) kicks: u64,
-    /// Whether notifications of the driver are enabled, and with an event index at which position,
-    /// since the queue has begun. Unknown at first.
-    pub(super) told: Option<(u64, bool, u16)>,
-    /// The number of threads that sleep until an event.
-    pub(super) sleeping: usize,
-    /// A sleeping thread was woken to pop a chain, and doesn't have the lock yet.
-    pub(super) is_woken: bool,
+    /// How often the queue had begun at the last turn (`Queued::next_chain`).
+    pub(super) begun: u64,
+    pub(super) turns: Turns,
     /// The number of chains popped, and of those pushed or given up.
     pub(super) popped: u64,
     pub(super) returned: u64,
@@ -188,32 +186,16 @@ impl<Q> Locked<Q> {
 }
 
 impl<Q: Queued> Locked<Q> {
-    /// Enables or disables notifications of the driver by `set`, unless memory has this setting
-    /// already. Returns whether something was stored: then a chain may have become available
-    /// before.
+    /// Enables notifications of the driver by `set`, for a device that continues the queue, unless
+    /// that may not be stored. Returns whether it was. The queue's threads do so by themselves.
     ///
     /// # Errors
-    /// Those of `set`. The next call tries it again.
-    pub fn tell(
+    /// Those of `set`.
+    pub fn enable_notifications(
         &mut self,
-        enabled: bool,
         set: impl FnOnce(&mut Q) -> Result<bool, Status>,
     ) -> Result<bool, Status> {
-        let (begun, next) = self.queued.next_chain();
-        let has_index = self.queued.queue().has_event_index();
-        let telling = Some((begun, enabled, if enabled && has_index { next } else { 0 }));
-        if !self.queued.may_tell() || self.told == telling {
-            return Ok(false); // [OmitsWish], if it is wanted
-        }
-        if has_index && !enabled {
-            self.told = telling; // nothing is stored for that (VIRTIO 1.2, 2.7.10)
-            return Ok(false);
-        }
-        // [Wishes, WishIsThere], or [Silences]: a store of avail_event or of the used ring's flags,
-        // and a full barrier
-        let is_stored = set(&mut self.queued)?;
-        self.told = telling;
-        Ok(is_stored)
+        Ok(self.queued.may_tell() && set(&mut self.queued)?)
     }
 
     /// A number that changes when a chain is popped or returned.
@@ -323,6 +305,9 @@ pub struct Loop<Q> {
     coming: AtomicUsize,
 }
 
+/// The lock.
+pub(super) type Held<'l, Q> = MutexGuard<'l, Locked<Q>>;
+
 /// A thread that comes from its call tries the lock so often before it waits for it by a system
 /// call: another thread has it for a pop and a push, which take less time than that.
 const TRIES: u32 = 100;
@@ -337,13 +322,14 @@ impl<Q: Queued> Loop<Q> {
     }
 
     pub(super) fn over(events: Events, queued: Q) -> Loop<Q> {
+        let begun = queued.next_chain().0;
+        let turns = Turns::new(queued.queue().has_event_index());
         let state = Locked {
             queued,
             kick: None,
             kicks: 0,
-            told: None,
-            sleeping: 0,
-            is_woken: false,
+            begun,
+            turns,
             popped: 0,
             returned: 0,
             until: None,
@@ -400,9 +386,45 @@ impl<Q: Queued> Loop<Q> {
         Ok(())
     }
 
+    /// The loop of each of the queue's threads: `Ok` once its server ends it. It begins with a look
+    /// for chains, so start it on threads when the queue may be served: an earlier thread that has
+    /// a chain may have disabled notifications, since no other slept.
+    ///
+    /// # Errors
+    /// The system's: events can't be waited for.
+    pub fn run(&self, server: &mut impl Server<Q>) -> io::Result<()> {
+        Thread::new(self, server).run()
+    }
+
+    /// Waits for an event: the driver's notification, `look`, or none.
+    pub(super) fn wait(&self, server: &mut impl Server<Q>) -> io::Result<()> {
+        if let Some(number) = self.events.wait(-1)? {
+            let mut state = self.lock();
+            if state.kicks != number {
+                return Ok(()); // there is another by now
+            }
+            let _ = self.set_kick(&mut state, None); // a removal can't fail
+            drop(state);
+            server.loses_kick();
+        }
+        Ok(())
+    }
+
+    /// Waits for so long, or until somebody notifies who waits.
+    pub(super) fn wait_a_moment<'a>(&'a self, state: Held<'a, Q>, time: Duration) -> Held<'a, Q> {
+        let waited = self.changed.wait_timeout(state, time);
+        waited.unwrap_or_else(PoisonError::into_inner).0
+    }
+
     /// Has a thread look for chains, as the driver's notification does.
     pub fn look(&self) {
-        self.events.wake(); // [Signals]
+        self.events.wake();
+    }
+
+    pub(super) fn notify_if_awaited(&self, state: &Locked<Q>) {
+        if state.is_awaited() {
+            self.notify_waiting();
+        }
     }
 
     /// Has who waits look at its condition again.

@@ -1,6 +1,6 @@
 //! The workers of a queue, whose chains may wait for their answers, and the threads that have them.
 use super::events::signal;
-use super::loops::{Queued, Server};
+use super::loops::{Locked, Queued, Server};
 use super::{Mapped, Shared, State};
 use crate::cancelled::Cancelled;
 use crate::device::Device;
@@ -188,6 +188,24 @@ impl Shared {
         Some(seat)
     }
 
+    /// Enables notifications for the device that continues the queue. No thread is left.
+    pub(super) fn enable_notifications(&self, state: &mut Locked<State>) {
+        let enable = |state: &mut State| {
+            let State { idle, queue, mapped, .. } = state;
+            let mut set = Ok(false);
+            for seat in idle {
+                set = seat
+                    .use_memory(&self.device, mapped)
+                    .and_then(|()| seat.worker.set_notification(queue, true, &*seat.mapped.memory));
+                if set.is_ok() {
+                    break;
+                }
+            }
+            set
+        };
+        let _ = state.enable_notifications(enable); // an allocation failed
+    }
+
     /// Abandons a worker's chain, and has its answer undone.
     pub(super) fn abandon(&self, seat: &mut Seat) {
         seat.worker.mark_data(&*seat.mapped.memory);
@@ -197,6 +215,10 @@ impl Shared {
 
 impl Server<State> for Hand<'_> {
     /// A chain whose answer has come is served before a new one.
+    fn has_answered(&mut self, _: &State) -> bool {
+        !self.shared.answered.is_empty()
+    }
+
     fn resumes(&mut self, state: &mut State) -> bool {
         let came = self.shared.answered.next().and_then(|number| state.waiting[number].take());
         self.is_resumed = came.is_some();
@@ -206,11 +228,8 @@ impl Server<State> for Hand<'_> {
         self.is_resumed
     }
 
-    fn has_answered(&mut self, _: &State) -> bool {
-        !self.shared.answered.is_empty()
-    }
-
     fn pop(&mut self, state: &mut State) -> Result<Popped, Status> {
+        self.is_resumed = false;
         let seat = self.seat(state)?;
         let is_popped = seat.worker.pop(&mut state.queue, &*seat.mapped.memory)?;
         Ok(if is_popped { Popped::Chain } else { Popped::Idle })

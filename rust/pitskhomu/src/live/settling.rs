@@ -56,8 +56,8 @@ impl<Q: Queued> Loop<Q> {
     }
 
     /// Ends `pop_until` and `settle`: waits while `is_within` holds of the threads, and has chains
-    /// popped again from then on, unless the queue isn't live. Have it hold only for moments, as
-    /// for a thread that pushes a chain.
+    /// popped again from then on, unless the queue isn't live, and a thread look for them. Have it
+    /// hold only for moments, as for a thread that pushes a chain.
     pub fn close<'a>(
         &'a self,
         mut state: MutexGuard<'a, Locked<Q>>,
@@ -67,6 +67,7 @@ impl<Q: Queued> Loop<Q> {
         state = self.wait_while(state, |_| is_within());
         state.waiters -= 1;
         state.until = None;
+        self.look();
         state
     }
 

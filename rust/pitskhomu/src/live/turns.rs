@@ -1,300 +1,335 @@
-//! The loop of a queue's threads. Comments in brackets name the steps of the notification model
-//! (crate notify): of the available ring, whose giver is the driver, those of `specs/Threads.antt`;
-//! of the used ring, whose giver is the device, those of `specs/Kicks.antt`. The threads' own event
-//! is `Events::wake`: a write to it is `Signals`. The calls of `Server` make the loads and stores,
-//! with their barriers.
-use super::loops::{Asked, Locked, Loop, Queued, Server};
+//! The loop of a queue's threads. The machine says what a thread does next (`machine`). A thread
+//! does it, and says what happened. The calls of `Server` make the loads and stores, with their
+//! barriers. What a thread may report, and what follows from it, is proved over the model of
+//! several threads (crates `notify` and `fs_turns`).
+use super::loops::{Asked, Held, Locked, Loop, Queued, Server};
+use super::machine::{Action, Event, Orders, Seen};
 use crate::status::Status;
 use crate::worker::Popped;
 use std::io;
-use std::os::raw::c_int;
-use std::sync::MutexGuard;
+use std::time::Duration;
 
 /// The time until the next try after an allocation failed.
-const AGAIN_MILLISECONDS: c_int = 100;
+const AGAIN: Duration = Duration::from_millis(100);
 /// So often a chain's addresses are asked for before other queues have their turn: an IOMMU may
 /// answer, and unmap them again before the answer is used.
 const MOST_ROUNDS: u32 = 64;
 
-/// The outcome of looking for a chain.
+/// How a thread came to the lock.
 #[derive(Debug, Clone, Copy, PartialEq, Eq)]
-enum Looked {
-    /// A chain was popped.
-    Popped,
-    /// No chain is available.
-    Idle,
-    /// None can be popped. Who changes that looks again.
-    Full,
-    /// Ask the IOMMU first.
-    Missing,
-    /// Try again later.
-    Again,
+enum Came {
+    /// It slept.
+    Woken,
+    /// It didn't.
+    Back,
+    /// It has pushed a chain.
+    Pushed,
 }
 
-/// How a thread's turn ended.
-#[derive(Debug, Clone, Copy, PartialEq, Eq)]
-enum Rest {
-    /// It sleeps until an event.
-    Event,
-    /// Or until the next try.
-    Again,
-    /// It ends.
-    End,
+impl<Q: Queued> Locked<Q> {
+    /// Tells the machine of a queue that has begun again: nothing is stored about its
+    /// notifications. Nor is anything known after a panic amid a turn. Returns whether it was so.
+    fn begin_again(&mut self) -> bool {
+        let (begun, has_index) = (self.next_chain().0, self.queue().has_event_index());
+        let is_same = self.begun == begun && self.turns.has_event_index() == has_index;
+        if is_same && self.turns.is_free() {
+            return false;
+        }
+        self.begun = begun;
+        self.turns.begin_again(has_index);
+        true
+    }
+
+    /// The same in a pop, by which a queue may begin, too.
+    fn begin_again_in_pop(&mut self) {
+        if self.turns.has_event_index() != self.queue().has_event_index() {
+            self.begin_again();
+            self.begin_turn(Came::Pushed, false);
+        }
+    }
+
+    fn begin_turn(&mut self, came: Came, answers_wait: bool) -> Orders {
+        let event = match came {
+            Came::Woken => Event::Woken { answers_wait },
+            came => Event::Back { notify: came == Came::Pushed, answers_wait },
+        };
+        self.turns.next(event, Seen::default())
+    }
+
+    fn next(&mut self, event: Event, another_comes: bool) -> Orders {
+        let next_avail = self.next_chain().1;
+        let seen = Seen { next_avail, is_full: !self.has_room(), another_comes };
+        self.turns.next(event, seen)
+    }
 }
 
-/// What a thread keeps from one chain to the next, until it sleeps.
-#[derive(Debug, Default)]
-struct Turn {
+/// A thread of the loop.
+pub(super) struct Thread<'l, 's, Q, S> {
+    looping: &'l Loop<Q>,
+    server: &'s mut S,
     /// So often the IOMMU was asked for the next chain.
     rounds: u32,
     /// The chain that the IOMMU was asked for.
     asked_for: Option<(u64, u16)>,
+    /// The chain for which the IOMMU's table lacks addresses, and whether its notification does.
+    missing: Option<((u64, u16), bool)>,
+    /// Why notifications can't be enabled.
+    untold: Option<Status>,
+    /// An answer is undone before the thread comes again.
+    must_undo: bool,
+    /// How the thread ends.
+    ended: Option<io::Result<()>>,
 }
 
-impl<Q: Queued> Locked<Q> {
+impl<'l, 's, Q: Queued, S: Server<Q>> Thread<'l, 's, Q, S> {
+    pub fn new(looping: &'l Loop<Q>, server: &'s mut S) -> Thread<'l, 's, Q, S> {
+        Thread {
+            looping,
+            server,
+            rounds: 0,
+            asked_for: None,
+            missing: None,
+            untold: None,
+            must_undo: false,
+            ended: None,
+        }
+    }
+
+    /// Takes turns until the thread ends.
+    pub fn run(mut self) -> io::Result<()> {
+        let (mut state, mut came) = (self.looping.lock(), Came::Back);
+        loop {
+            (state, came) = match self.take_turn(state, came) {
+                Action::Answer => self.answer(),
+                Action::Sleep => (self.sleep(), Came::Woken),
+                Action::StepAside => (self.step_aside(), Came::Back),
+                _ if self.must_undo => (self.undo(), Came::Back),
+                _ => return self.ended.unwrap_or(Ok(())),
+            };
+        }
+    }
+
+    /// A turn, under the lock. Returns what the thread does without it.
+    fn take_turn(&mut self, mut state: Held<'l, Q>, came: Came) -> Action {
+        let mut wakes = state.begin_again();
+        let answers_wait = !self.leaves() && self.server.has_answered(&state);
+        let mut orders = state.begin_turn(came, answers_wait);
+        let mut interrupts = orders.interrupts;
+        loop {
+            if interrupts && orders.action.is_rest() {
+                // Before anybody who waits gets the lock: a queue that has stopped owes nothing.
+                self.server.interrupt();
+                interrupts = false;
+            }
+            let event = match self.perform(&mut state, orders.action) {
+                Some(event) => event,
+                None => break,
+            };
+            orders = state.next(event, self.looping.another_comes());
+            (wakes, interrupts) = (wakes | orders.wakes, interrupts | orders.interrupts);
+        }
+        if orders.action.is_rest() {
+            self.looping.notify_if_awaited(&state);
+        }
+        drop(state);
+        if interrupts {
+            self.server.interrupt();
+        }
+        if wakes {
+            self.looping.look();
+        }
+        orders.action
+    }
+
+    /// Whether the thread takes no chain now: it ends, or has to undo an answer first.
+    fn leaves(&self) -> bool {
+        self.must_undo || self.ended.is_some()
+    }
+
+    /// Does what the machine says under the lock. Returns what happened; `None` if the lock is to
+    /// be released.
+    fn perform(&mut self, state: &mut Locked<Q>, action: Action) -> Option<Event> {
+        match action {
+            Action::Resume => Some(self.resume(state)),
+            Action::Pop => Some(self.pop(state)),
+            Action::Arm => Some(self.arm(state)),
+            Action::Look => Some(self.look(state)),
+            Action::Mute => Some(self.mute(state)),
+            Action::Sleep if self.server.rests(state) => {
+                self.ended = Some(Ok(()));
+                Some(Event::Woken { answers_wait: false }) // it doesn't sleep, but ends
+            }
+            Action::Wrong => {
+                debug_assert!(false, "an event that can't happen");
+                self.server.refuse(state, Status::WrongOrder);
+                self.ended = Some(Ok(()));
+                None
+            }
+            _ => None,
+        }
+    }
+
+    /// Takes up a chain that waited for its answer.
+    fn resume(&mut self, state: &mut Locked<Q>) -> Event {
+        if self.server.resumes(state) {
+            Event::Resumed { another: self.server.has_answered(state) }
+        } else {
+            Event::NoneResumed
+        }
+    }
+
     /// Pops the next chain, if one is available.
-    fn pop(&mut self, server: &mut impl Server<Q>) -> Looked {
-        if !self.is_live() || self.until == Some(self.next_chain().1) {
-            return Looked::Idle;
+    fn pop(&mut self, state: &mut Locked<Q>) -> Event {
+        if self.leaves() {
+            return Event::Refused;
         }
-        // [Loads], unless a chain before the index that was loaded last is left; [TakesOne]. An
-        // error after the first load is [DropsOne] or [Loads] alone.
-        match server.pop(self) {
-            Ok(popped) => {
-                self.is_missing = popped == Popped::Missing;
-                match popped {
-                    Popped::Chain => Looked::Popped,
-                    Popped::Idle => Looked::Idle,
-                    Popped::Missing => Looked::Missing,
-                }
+        let chain = state.next_chain();
+        self.server.looks(state, self.asked_for.take() == Some(chain));
+        if !state.is_live() || state.until == Some(chain.1) {
+            return Event::Paused;
+        }
+        let popped = self.server.pop(state);
+        state.begin_again_in_pop();
+        if let Ok(popped) = popped {
+            state.is_missing = popped == Popped::Missing;
+        }
+        match popped {
+            Ok(Popped::Chain) => {
+                self.begin_chain(state);
+                Event::Popped
             }
-            Err(Status::ChainInFlight) => Looked::Full,
-            Err(status) if status.is_out_of_memory() => Looked::Again,
+            Ok(Popped::Idle) => Event::Idle { polls: false },
+            Ok(Popped::Missing) => {
+                self.missing = Some((state.next_chain(), false));
+                Event::Later
+            }
+            Err(Status::ChainInFlight) => Event::Full,
+            Err(status) if status.is_out_of_memory() => Event::Later,
             Err(status) => {
-                server.refuse(self, status);
-                Looked::Idle
+                self.server.refuse(state, status);
+                Event::Paused
             }
         }
     }
 
-    /// Whether a chain is available, as a hint: the driver may write to the ring at any time. The
-    /// ring's index is loaded only if the last one shows no available chain.
-    fn has_more(&self, server: &mut impl Server<Q>) -> bool {
-        // the look once more of [ProceedsBusy] and [CallsOne]: a load of the available index
-        self.queue().knows_more() || server.available_index(self) != Some(self.next_chain().1)
-    }
-
-    /// While this thread answers its chain, a sleeping thread serves the next ones, so
-    /// notifications are enabled. Without a sleeping thread they are disabled, and this thread
-    /// looks again later. Returns whether the caller must wake a thread after it has released the
-    /// lock: if they can't be enabled, a chain is available, or one that waited has its answer. One
-    /// at a time is enough: it takes a chain, and wakes the next. (In the model the threads' event
-    /// is pending from here on until that thread has the lock, so others are `ProceedsBusy` without
-    /// a call of their own.) Nor is one woken while another thread `comes` from its call to the
-    /// lock: it looks for a chain, and does the same then.
-    fn hand_on(&mut self, server: &mut impl Server<Q>, comes: bool) -> bool {
-        let is_due = self.sleeping > 0 && !self.is_woken && !comes;
-        let mut wakes = is_due && server.has_answered(self); // such a chain has a worker
-        let is_for_another = self.sleeping > 0 && self.has_room();
-        // else they are disabled since the last one, or since the queue has begun
-        if is_for_another || !matches!(self.told, Some((_, false, _))) {
-            // [Wishes] or [OmitsWish]; with nobody asleep [Silences]
-            let told = self.tell(is_for_another, |q| server.set_notification(q, is_for_another));
-            // [ProceedsBusy] if no chain is left, or a thread is woken already. Else [Signals], and
-            // then [ProceedsBusy]. With nobody asleep [Unlocks].
-            let is_due = is_due && is_for_another && !wakes;
-            wakes |= is_due && (told.is_err() || self.has_more(server));
-        }
-        self.is_woken |= wakes;
-        wakes
-    }
-}
-
-impl<Q: Queued> Loop<Q> {
-    /// Waits for an event.
-    fn wait(&self, server: &mut impl Server<Q>, milliseconds: c_int) -> io::Result<()> {
-        // [Wakens]: by the driver's notification, by `wake`, or by neither
-        if let Some(number) = self.events.wait(milliseconds)? {
-            let mut state = self.lock();
-            if state.kicks != number {
-                return Ok(()); // there is another by now
-            }
-            let _ = self.set_kick(&mut state, None); // a removal can't fail
-            drop(state);
-            server.loses_kick();
-        }
-        Ok(())
-    }
-
-    /// Answers the chain that the server has, without the lock, and returns it.
-    fn answer<'a, S: Server<Q>>(&'a self, server: &mut S) -> MutexGuard<'a, Locked<Q>> {
-        let has_reply = server.answer();
-        let mut state = self.come_back(); // [Comes, Enters]
-        if !has_reply {
-            return state;
-        }
-        // [ReturnsChains]; of the used ring [Publishes], a full barrier, [ChecksWish]
-        let must_undo = server.push(&mut state);
-        state.returned += 1;
-        if state.is_awaited() {
-            self.notify_waiting();
-        }
-        if must_undo {
-            // others may rely on this thread, which makes calls of the file system first
-            let wakes = state.hand_on(server, self.another_comes());
-            drop(state);
-            if wakes {
-                self.look();
-            }
-            server.undo();
-            state = self.come_back();
-        }
-        state
-    }
-
-    /// Has the next chain served by others too, and answers the one that was popped.
-    fn serve_one<'a, S: Server<Q>>(
-        &'a self,
-        mut state: MutexGuard<'a, Locked<Q>>,
-        server: &mut S,
-    ) -> MutexGuard<'a, Locked<Q>> {
+    fn begin_chain(&mut self, state: &mut Locked<Q>) {
+        self.rounds = 0;
         state.popped += 1;
         let number = state.popped;
-        server.begins(&mut state, number);
-        if state.is_awaited() {
-            self.notify_waiting();
-        }
-        self.hand_on_and_answer(state, server)
+        self.server.begins(state, number);
+        self.looping.notify_if_awaited(state);
     }
 
-    /// Has the next chain served by others too, if there is one, and answers the server's.
-    fn hand_on_and_answer<'a, S: Server<Q>>(
-        &'a self,
-        mut state: MutexGuard<'a, Locked<Q>>,
-        server: &mut S,
-    ) -> MutexGuard<'a, Locked<Q>> {
-        let wakes = state.hand_on(server, self.another_comes());
-        drop(state);
-        server.interrupt();
-        if wakes {
-            self.look();
+    /// Enables notifications of the driver for the next chain.
+    fn arm(&mut self, state: &mut Locked<Q>) -> Event {
+        if !state.may_tell() {
+            return Event::NotArmed;
         }
-        self.answer(server)
-    }
-
-    /// Serves chains until none is available. A chain that becomes available while notifications
-    /// are disabled is found by the look after they are enabled.
-    fn serve_all(&self, server: &mut impl Server<Q>) -> Rest {
-        let mut turn = Turn::default();
-        let mut state = self.lock(); // [Enters]
-        state.sleeping -= 1;
-        state.is_woken = false; // [Hears]
-        loop {
-            server.looks(&state, turn.asked_for.take() == Some(state.next_chain()));
-            if server.resumes(&mut state) {
-                state = self.hand_on_and_answer(state, server);
-                continue;
-            }
-            let looked = state.pop(server);
-            if looked == Looked::Popped {
-                turn.rounds = 0;
-                state = self.serve_one(state, server);
-                continue;
-            }
-            // Before anybody who waits gets the lock: a queue that has stopped owes nothing.
-            server.interrupt();
-            let ended;
-            (state, ended) = self.end_turn(state, server, looked, &mut turn);
-            if let Some(rest) = ended {
-                state.sleeping += 1; // [SleepsNow]
-                return if server.rests(&mut state) { Rest::End } else { rest };
+        match self.server.set_notification(state, true) {
+            Ok(true) => Event::Armed,
+            Ok(false) => Event::NotArmed,
+            Err(status) => {
+                self.untold = Some(status);
+                if status == Status::NotMapped {
+                    self.missing = Some((state.next_chain(), true));
+                }
+                Event::NotArmed
             }
         }
     }
 
-    /// What a thread does that found no chain: it sleeps, or looks once more.
-    fn end_turn<'a, S: Server<Q>>(
-        &'a self,
-        mut state: MutexGuard<'a, Locked<Q>>,
-        server: &mut S,
-        looked: Looked,
-        turn: &mut Turn,
-    ) -> (MutexGuard<'a, Locked<Q>>, Option<Rest>) {
-        if state.is_awaited() {
-            self.notify_waiting();
+    /// Whether a chain is available. The ring's index is loaded only if the last one shows none.
+    fn look(&mut self, state: &mut Locked<Q>) -> Event {
+        let has_more = state.queue().knows_more()
+            || self.server.available_index(state) != Some(state.next_chain().1);
+        if has_more {
+            Event::More
+        } else {
+            Event::NoMore
         }
-        // [Wishes], and one more round, whose pop is the look once more: [SleepsNow] or
-        // [KeepsWalking]. Or [OmitsWish] before this round, whose pop was that look
-        let told = match looked {
-            Looked::Missing => Err(Status::NotMapped),
-            Looked::Full => Ok(false),
-            _ => state.tell(true, |queued| server.set_notification(queued, true)),
-        };
-        let status = match told {
-            Ok(true) => return (state, None),
-            Ok(false) | Err(Status::ChainInFlight) => {
-                let is_again = looked == Looked::Again;
-                return (state, Some(if is_again { Rest::Again } else { Rest::Event }));
-            }
-            Err(status) => status,
-        };
-        if status != Status::NotMapped {
-            server.tells_later(status);
-        } else if turn.rounds < MOST_ROUNDS {
-            turn.rounds += 1;
-            let asked;
-            (state, asked) = self.ask(state, server, looked != Looked::Missing, turn);
-            if asked != Asked::NotAll {
-                return (state, None);
-            }
-        }
-        (state, Some(Rest::Again))
     }
 
-    /// Asks the IOMMU for what the thread missed, without the lock. The thread doesn't sleep: it
-    /// pops again when this is answered, and else in a moment. A thread that is woken meanwhile
-    /// misses the same.
-    fn ask<'a, S: Server<Q>>(
-        &'a self,
-        mut state: MutexGuard<'a, Locked<Q>>,
-        server: &mut S,
-        is_for_notification: bool,
-        turn: &mut Turn,
-    ) -> (MutexGuard<'a, Locked<Q>>, Asked) {
-        let chain = state.next_chain();
-        turn.asked_for = Some(chain);
-        drop(state);
-        let asked = server.ask();
-        state = self.lock();
+    /// Disables notifications. If that fails, the driver notifies in vain.
+    fn mute(&mut self, state: &mut Locked<Q>) -> Event {
+        if state.may_tell() {
+            let _ = self.server.set_notification(state, false);
+        }
+        Event::Muted
+    }
+
+    /// Answers the chain that the server has, without the lock, and pushes it.
+    fn answer(&mut self) -> (Held<'l, Q>, Came) {
+        (self.untold, self.missing) = (None, None);
+        let has_reply = self.server.answer();
+        let mut state = self.looping.come_back();
+        if !has_reply {
+            return (state, Came::Back);
+        }
+        self.must_undo = self.server.push(&mut state);
+        state.returned += 1;
+        self.looping.notify_if_awaited(&state);
+        (state, Came::Pushed)
+    }
+
+    /// Undoes an answer, without the lock: calls of the file system. For the machine the thread has
+    /// ended, and another one comes: so nobody relies on it meanwhile.
+    fn undo(&mut self) -> Held<'l, Q> {
+        self.must_undo = false;
+        self.server.undo();
+        self.looping.come_back()
+    }
+
+    /// Sleeps until an event.
+    fn sleep(&mut self) -> Held<'l, Q> {
+        (self.rounds, self.asked_for) = (0, None);
+        if let Err(error) = self.looping.wait(self.server) {
+            self.ended = Some(Err(error));
+        }
+        self.looping.lock()
+    }
+
+    /// Asks the IOMMU for what the thread missed, or waits for a moment. It takes no event from a
+    /// thread that sleeps.
+    fn step_aside(&mut self) -> Held<'l, Q> {
+        match self.ask_for_missing() {
+            Some(state) => state,
+            None => self.wait_a_moment(),
+        }
+    }
+
+    fn ask_for_missing(&mut self) -> Option<Held<'l, Q>> {
+        if let Some(status) = self.untold.take().filter(|&status| status != Status::NotMapped) {
+            self.server.tells_later(status);
+        }
+        let (chain, is_notification) = self.missing.take()?;
+        if self.rounds == MOST_ROUNDS {
+            return None;
+        }
+        self.rounds += 1;
+        self.ask(chain, is_notification)
+    }
+
+    fn wait_a_moment(&mut self) -> Held<'l, Q> {
+        (self.rounds, self.asked_for) = (0, None);
+        let mut state = self.looping.lock();
+        if self.server.rests(&mut state) {
+            self.ended = Some(Ok(()));
+            return state;
+        }
+        self.looping.wait_a_moment(state, AGAIN)
+    }
+
+    /// Asks the IOMMU for what the thread missed, without the lock. `None` if it hasn't answered.
+    /// A thread that is woken meanwhile misses the same.
+    fn ask(&mut self, chain: (u64, u16), is_notification: bool) -> Option<Held<'l, Q>> {
+        self.asked_for = Some(chain);
+        let asked = self.server.ask();
+        let mut state = self.looping.lock();
         let is_same = state.is_live() && state.next_chain() == chain;
-        if is_for_notification && asked == Asked::Refused && is_same {
-            server.refuse(&mut state, Status::NotMapped); // else it would ask for ever
+        if is_notification && asked == Asked::Refused && is_same {
+            self.server.refuse(&mut state, Status::NotMapped); // else it would ask for ever
         }
-        (state, asked)
-    }
-
-    /// The loop of each of the queue's threads: `Ok` once its server ends it. It begins with a look
-    /// for chains, so start it on threads when the queue may be served: an earlier thread that has
-    /// a chain may have disabled notifications, since no other slept.
-    ///
-    /// # Errors
-    /// The system's: events can't be waited for.
-    pub fn run(&self, server: &mut impl Server<Q>) -> io::Result<()> {
-        self.lock().sleeping += 1;
-        let mut milliseconds = 0;
-        let ended = loop {
-            if let Err(error) = self.wait(server, milliseconds) {
-                break Err(error);
-            }
-            milliseconds = match self.serve_all(server) {
-                Rest::Event => -1,
-                Rest::Again => AGAIN_MILLISECONDS,
-                Rest::End => break Ok(()),
-            };
-        };
-        self.lock().sleeping -= 1;
-        self.look(); // the next thread, which may end too
-        ended
+        (asked != Asked::NotAll).then_some(state)
     }
 }
 

@@ -12,6 +12,7 @@ use alloc::vec;
 use alloc::vec::Vec;
 use core::sync::atomic::{AtomicBool, Ordering};
 use std::fs::File;
+use std::io::Read as _;
 use std::os::unix::io::OwnedFd;
 use std::os::unix::net::UnixStream;
 use std::sync::mpsc::{channel, Receiver, Sender};
@@ -40,12 +41,52 @@ impl Queued for Ring {
 }
 
 /// A loop with so many chains available, and the state of so many threads that sleep.
-fn ring(available: u16, sleeping: usize) -> Loop<Ring> {
+fn ring(available: u16, sleeping: u64) -> Loop<Ring> {
     let layout = QueueLayout { size: 64, descriptors: 0, available: 0x1000, used: 0x2000 };
     let queue = Queue::new(layout, 0).and_then(|queue| queue.with_max_in_flight(64)).unwrap();
     let looping = Loop::new(Ring { queue, available, refused: None }).unwrap();
-    looping.lock().sleeping = sleeping;
+    looping.lock().turns.add_sleeping(sleeping);
     looping
+}
+
+/// How a thread's turns end, until it waits.
+#[derive(Debug, PartialEq, Eq)]
+enum Rest {
+    /// It sleeps until an event.
+    Event,
+    /// It waits for a moment.
+    Again,
+    /// It ends.
+    End,
+}
+
+/// A thread takes turns until it waits.
+fn serve<Q: Queued, S: Server<Q>>(looping: &Loop<Q>, server: &mut S, came: Came) -> Rest {
+    let mut thread = Thread::new(looping, server);
+    let (mut state, mut came) = (looping.lock(), came);
+    loop {
+        (state, came) = match thread.take_turn(state, came) {
+            Action::Answer => thread.answer(),
+            Action::Sleep => return Rest::Event,
+            Action::StepAside => match thread.ask_for_missing() {
+                Some(state) => (state, Came::Back),
+                None if thread.server.rests(&mut looping.lock()) => return Rest::End,
+                None => return Rest::Again,
+            },
+            _ if thread.must_undo => (thread.undo(), Came::Back),
+            _ => return Rest::End,
+        };
+    }
+}
+
+/// A thread that slept.
+fn serve_all<Q: Queued, S: Server<Q>>(looping: &Loop<Q>, server: &mut S) -> Rest {
+    serve(looping, server, Came::Woken)
+}
+
+/// Whether the loop has woken a thread since the last look at it.
+fn has_woken<Q: Queued>(looping: &Loop<Q>) -> bool {
+    looping.events.waker().unwrap().read(&mut [0; 8]).is_ok()
 }
 
 /// What a test has its server do, and what it counts.
@@ -58,6 +99,8 @@ struct Fake {
     answers: u32,
     /// So many times notifications can't be enabled or disabled, for this reason.
     untold: Vec<Status>,
+    /// The times when they were.
+    told: Vec<bool>,
     asked: Option<Asked>,
     /// A call begins and ends by these.
     calls: Option<(Sender<()>, Receiver<()>)>,
@@ -122,8 +165,12 @@ impl Server<Ring> for Fake {
 
     fn interrupt(&mut self) {}
 
-    fn set_notification(&mut self, _: &mut Ring, _: bool) -> Result<bool, Status> {
-        self.untold.pop().map_or(Ok(true), Err)
+    fn set_notification(&mut self, _: &mut Ring, enabled: bool) -> Result<bool, Status> {
+        if let Some(status) = self.untold.pop() {
+            return Err(status);
+        }
+        self.told.push(enabled);
+        Ok(true)
     }
 
     fn available_index(&mut self, ring: &Ring) -> Option<u16> {
@@ -157,48 +204,54 @@ impl Server<Ring> for Fake {
 fn what_could_not_be_said_is_said_again() {
     let looping = ring(0, 1);
     let mut server = Fake { untold: vec![Status::OutOfMemory], ..Fake::default() };
-    assert_eq!(looping.serve_all(&mut server), Rest::Again);
-    assert_eq!((looping.lock().told, server.later), (None, 1));
-    assert_eq!(looping.serve_all(&mut server), Rest::Event);
-    assert_eq!((looping.lock().told, server.later), (Some((0, true, 0)), 1));
+    assert_eq!(serve_all(&looping, &mut server), Rest::Again);
+    assert_eq!((server.told.len(), server.later), (0, 1));
+    assert_eq!(serve(&looping, &mut server, Came::Back), Rest::Event);
+    assert_eq!((server.told, server.later), (vec![true], 1));
 }
 
+/// A thread takes a chain, and another is woken for the next one: by one write, until it has come.
 #[test]
 fn one_thread_at_a_time_is_woken() {
-    let (looping, mut server) = (ring(1, 2), Fake::default());
-    assert!(
-        looping.lock().hand_on(&mut server, false) && !looping.lock().hand_on(&mut server, false)
-    );
-    looping.lock().available = 0;
-    assert_eq!(looping.serve_all(&mut server), Rest::Event); // it has come
-    assert!(!looping.lock().hand_on(&mut server, false), "no chain is available");
-    looping.lock().available = 1;
-    assert!(!looping.lock().hand_on(&mut server, true), "another thread comes to the lock");
-    assert!(looping.lock().hand_on(&mut server, false));
-    looping.lock().sleeping = 0;
-    looping.lock().is_woken = false;
-    assert!(!looping.lock().hand_on(&mut server, false), "nobody sleeps");
-    assert_eq!(looping.lock().told, Some((0, false, 0)));
+    let looping = ring(2, 3);
+    for wakes in [true, false] {
+        let mut server = Fake::default();
+        let mut thread = Thread::new(&looping, &mut server);
+        assert_eq!(thread.take_turn(looping.lock(), Came::Back), Action::Answer);
+        assert_eq!((has_woken(&looping), looping.lock().turns.is_called()), (wakes, true));
+    }
+    let mut server = Fake::default();
+    assert_eq!(serve_all(&looping, &mut server), Rest::Event); // it has come, and none is left
+    assert!(!has_woken(&looping) && !looping.lock().turns.is_called());
+}
+
+/// Without a thread that sleeps notifications are disabled, and enabled before one does.
+#[test]
+fn notifications_are_for_who_sleeps() {
+    let (looping, mut server) = (ring(3, 1), Fake::default());
+    assert_eq!(serve_all(&looping, &mut server), Rest::Event);
+    assert_eq!((server.told, server.answers), (vec![false, true], 3));
 }
 
 /// A thread that undoes an answer makes calls of the file system. Nobody relies on it meanwhile.
 #[test]
 fn a_thread_that_undoes_hands_on() {
-    let looping = Arc::new(ring(2, 2));
+    let looping = Arc::new(ring(1, 2));
     let other = looping.clone();
-    let undoes = move || assert!(other.lock().is_woken, "a chain is available");
+    let undoes = move || {
+        let mut state = other.lock();
+        assert!(state.turns.is_called() && has_woken(&other), "a chain may be available");
+        state.available = 2;
+    };
     let mut server = Fake { undoes: Some(Box::new(undoes)), ..Fake::default() };
-    let mut state = looping.lock();
-    assert_eq!(state.pop(&mut server), Looked::Popped);
-    drop(state);
-    drop(looping.answer(&mut server));
-    assert!(server.undoes.is_none());
+    assert_eq!(serve_all(&looping, &mut server), Rest::Event);
+    assert_eq!((server.undoes.is_none(), server.answers), (true, 2));
 }
 
 /// While a thread comes back from its call to the lock, no other is woken.
 #[test]
 fn a_thread_that_comes_back_is_known() {
-    let (looping, has_begun, end) = held(2);
+    let (looping, has_begun, end) = held(3);
     has_begun.recv_timeout(SOON).unwrap();
     let (mut state, begun) = (looping.lock(), Instant::now());
     assert!(!looping.another_comes());
@@ -207,12 +260,12 @@ fn a_thread_that_comes_back_is_known() {
         assert!(begun.elapsed() < SOON);
         thread::yield_now();
     }
-    state.sleeping = 1;
-    assert!(!state.hand_on(&mut Fake::default(), looping.another_comes()));
-    state.sleeping = 0;
-    drop(state);
+    state.turns.add_sleeping(1);
+    let mut server = Fake::default();
+    let mut other = Thread::new(&looping, &mut server);
+    assert_eq!(other.take_turn(state, Came::Back), Action::Answer);
     has_begun.recv_timeout(SOON).unwrap();
-    assert!(!looping.another_comes());
+    assert!(!looping.another_comes() && !has_woken(&looping));
     end.send(()).unwrap();
     until(&looping, |state| state.queue.next_used() == 2);
 }
@@ -234,7 +287,7 @@ fn a_refusal_is_for_one_chain() {
             meanwhile: Some(Box::new(meanwhile)),
             ..Fake::default()
         };
-        assert_eq!(looping.serve_all(&mut server), Rest::Event);
+        assert_eq!(serve_all(&looping, &mut server), Rest::Event);
         let pops = if is_popped { 3 } else { 4 };
         assert_eq!((server.asks, server.pops), (1, pops));
         assert!(server.forgotten.starts_with(&forgotten), "{:?}", server.forgotten);
@@ -246,10 +299,10 @@ fn a_refusal_is_for_one_chain() {
 fn misses_are_asked_for_a_while() {
     let looping = ring(1, 1);
     let mut server = Fake { missing: 1000, asked: Some(Asked::All), ..Fake::default() };
-    assert_eq!(looping.serve_all(&mut server), Rest::Again);
+    assert_eq!(serve_all(&looping, &mut server), Rest::Again);
     assert_eq!((server.asks, server.pops), (MOST_ROUNDS, MOST_ROUNDS + 1));
     server.missing = 1;
-    assert_eq!(looping.serve_all(&mut server), Rest::Event);
+    assert_eq!(serve(&looping, &mut server, Came::Back), Rest::Event);
     assert_eq!(looping.lock().queue.next_used(), 1);
 }
 
@@ -258,11 +311,11 @@ fn misses_are_asked_for_a_while() {
 fn a_miss_without_an_answer_is_asked_again_later() {
     let looping = ring(1, 1);
     let mut server = Fake { missing: 2, ..Fake::default() };
-    for asks in 1..=2 {
-        assert_eq!((looping.serve_all(&mut server), server.asks), (Rest::Again, asks));
+    for (asks, came) in [(1, Came::Woken), (2, Came::Back)] {
+        assert_eq!((serve(&looping, &mut server, came), server.asks), (Rest::Again, asks));
         assert!(looping.lock().is_missing);
     }
-    assert_eq!(looping.serve_all(&mut server), Rest::Event);
+    assert_eq!(serve(&looping, &mut server, Came::Back), Rest::Event);
     let state = looping.lock();
     assert!(!state.is_missing && state.queue.next_used() == 1);
 }
@@ -274,7 +327,7 @@ fn a_refused_notification_refuses_the_queue() {
         let looping = ring(0, 1);
         let untold = vec![Status::NotMapped];
         let mut server = Fake { untold, asked: Some(asked), ..Fake::default() };
-        assert_eq!(looping.serve_all(&mut server), Rest::Event);
+        assert_eq!(serve_all(&looping, &mut server), Rest::Event);
         assert_eq!((looping.lock().refused, server.asks), (refused, 1));
     }
 }
@@ -285,7 +338,7 @@ fn a_refused_page_of_a_chain_refuses_no_queue() {
     let looping = ring(1, 1);
     let asked = Some(Asked::Refused);
     let mut server = Fake { missing: 1, asked, ..Fake::default() };
-    assert_eq!(looping.serve_all(&mut server), Rest::Event);
+    assert_eq!(serve_all(&looping, &mut server), Rest::Event);
     let state = looping.lock();
     assert_eq!((state.refused, server.asks, server.answers), (None, 1, 1));
     assert_eq!((state.queue.next_used(), state.popped, state.returned), (1, 1, 1));
@@ -303,13 +356,14 @@ fn refusals_of_a_pop() {
         (Status::OtherTable, Rest::Event, Some(Status::OtherTable)),
     ] {
         let looping = ring(0, 1);
-        // Notifications are enabled first, and chains are looked for once more.
-        let refusals = vec![status; 2];
+        let refusals = vec![status];
         let mut server = Fake { refusals, asked: Some(Asked::All), ..Fake::default() };
-        assert_eq!(looping.serve_all(&mut server), rest, "{status}");
+        assert_eq!(serve_all(&looping, &mut server), rest, "{status}");
         let state = looping.lock();
         assert_eq!((state.refused, server.asks, server.answers), (refused, 0, 0), "{status}");
-        assert_eq!((state.popped, state.returned, state.sleeping), (0, 0, 1), "{status}");
+        let asleep = u64::from(rest == Rest::Event);
+        assert_eq!((state.popped, state.returned), (0, 0), "{status}");
+        assert_eq!((state.turns.sleeping(), server.told.len()), (asleep, 0), "{status}");
         assert!(!state.is_missing);
     }
 }
@@ -320,7 +374,7 @@ fn a_stop_has_the_chains_looked_for() {
     let looping = Arc::new(ring(0, 0));
     let threads = looping.clone();
     thread::spawn(move || threads.run(&mut Fake::default())); // it ends with the process
-    until(&looping, |state| state.sleeping == 1 && state.told.is_some());
+    until(&looping, |state| state.turns.sleeping() == 1);
     thread::sleep(MOMENT);
     let mut state = looping.lock();
     state.available = 3;
@@ -433,7 +487,7 @@ fn a_close_waits_for_who_is_within() {
 fn who_stops_does_not_wait_for_an_iommu() {
     let looping = ring(2, 1);
     let mut server = Fake { missing: 1, ..Fake::default() };
-    assert_eq!(looping.serve_all(&mut server), Rest::Again);
+    assert_eq!(serve_all(&looping, &mut server), Rest::Again);
     let before = Instant::now();
     let mut state = looping.pop_until(looping.lock(), 2, || SOON);
     assert_eq!(state.until, Some(0));
@@ -462,14 +516,14 @@ fn an_event_that_replaces_another_is_heard() {
     looping.set_kick(&mut looping.lock(), Some(event)).unwrap();
     let threads = looping.clone();
     thread::spawn(move || threads.run(&mut Fake::default())); // it ends with the process
-    until(&looping, |state| state.sleeping == 1 && state.told.is_some());
+    until(&looping, |state| state.turns.sleeping() == 1);
     let (mut state, event) = (looping.lock(), new_event().unwrap());
     drop(driver);
     thread::sleep(MOMENT); // the thread wakes, and waits for the lock
     looping.set_kick(&mut state, Some(event.try_clone().unwrap())).unwrap();
     drop(state);
     thread::sleep(MOMENT);
-    until(&looping, |state| state.sleeping == 1);
+    until(&looping, |state| state.turns.sleeping() == 1);
     looping.lock().available = 1;
     signal(&event).unwrap();
     until(&looping, |state| state.queue.next_used() == 1);
@@ -534,5 +588,5 @@ fn threads_end_one_after_another() {
         });
     }
     (0..3).for_each(|_| assert_eq!(ends.recv_timeout(SOON), Ok(true)));
-    assert_eq!(looping.lock().sleeping, 0);
+    assert_eq!(looping.lock().turns.sleeping(), 0);
 }

@@ -84,7 +84,7 @@ fn an_answer_waits_for_no_other() {
         thread::spawn(move || threads.run(&mut late)); // it ends with the process
     }
     for round in 0..rounds.unwrap_or(ROUNDS) {
-        until(&looping, |state| state.sleeping == 2);
+        until(&looping, |state| state.turns.sleeping() == 2);
         thread::sleep(Duration::from_millis(10)); // both wait for an event
         *came.0.lock().unwrap() = 2;
         looping.look();
@@ -94,6 +94,6 @@ fn an_answer_waits_for_no_other() {
             assert_eq!(took, Ok(()), "round {round}: an answer waits, and a thread sleeps");
         }
         end.send(()).unwrap();
-        until(&looping, |state| state.sleeping == 2);
+        until(&looping, |state| state.turns.sleeping() == 2);
     }
 }

@@ -25,6 +25,8 @@ struct World {
     /// Something has woken a thread that sleeps, and none has come yet; a thread of the loop has.
     is_pending: bool,
     is_handed: bool,
+    /// So many threads stepped aside, and come again by themselves.
+    aside: usize,
     idle: usize,
     workers: usize,
     /// The chains that wait for their answers, and how many of these have come.
@@ -32,6 +34,8 @@ struct World {
     answered: usize,
     is_ending: bool,
     has_failed: bool,
+    /// Notifications couldn't be disabled.
+    is_heard: bool,
     counts: Counts,
 }
 
@@ -59,12 +63,14 @@ impl World {
             left: OFFERS,
             is_pending: false,
             is_handed: false,
+            aside: 0,
             idle: 0,
             workers: 0,
             waiting: 0,
             answered: 0,
             is_ending: false,
             has_failed: false,
+            is_heard: false,
             counts: Counts::default(),
         };
         world.workers = 1 + world.below(4) as usize;
@@ -81,6 +87,7 @@ impl World {
         let queue = Queue::new(layout, position).and_then(|queue| queue.with_max_in_flight(64));
         self.queue = queue.unwrap().with_event_index(has_index);
         (self.begun, self.available) = (self.begun + 1, position);
+        self.has_failed = true; // a thread is woken for the new queue
         (self.event, self.is_enabled, self.told) = (0, true, None);
     }
 
@@ -158,12 +165,6 @@ impl<'l> Thread<'l> {
         Thread { looping, has_worker: false, owes: false, must_undo: false, is_undoing: false }
     }
 
-    /// Whether the loop has woken a thread since the last look at it.
-    fn has_woken(&self) -> bool {
-        use std::io::Read;
-        self.looping.events.waker().unwrap().read(&mut [0; 8]).is_ok()
-    }
-
     /// A worker without a chain.
     fn worker(&mut self, world: &mut World) -> Result<(), Status> {
         if !self.has_worker {
@@ -173,24 +174,27 @@ impl<'l> Thread<'l> {
         Ok(())
     }
 
-    /// A call begins: who sleeps is woken for the next chain, and nobody in vain.
+    /// A call begins: who sleeps is woken for the next chain, and nobody in vain, but while an
+    /// answer is undone.
     fn looks_around(&self, world: &mut Locked<World>) {
-        if self.has_woken() {
+        let sleeping = world.turns.sleeping();
+        if has_woken(self.looping) {
             let is_due = world.has_chain() || world.answered > 0 || world.has_failed;
-            assert!(is_due, "a thread is woken in vain");
+            assert!(is_due || self.is_undoing, "a thread is woken in vain");
             let has_room = world.idle > 0 || self.is_undoing || world.answered > 0;
-            assert!(world.sleeping > 0 && has_room, "nobody can be woken");
-            assert!(!world.is_handed, "two threads are woken");
-            (world.is_handed, world.is_pending) = (true, true);
+            assert!((sleeping > 0 && has_room) || world.has_failed, "nobody can be woken");
+            assert!(!world.is_handed || self.is_undoing, "two threads are woken");
+            (world.is_handed, world.is_pending) = (world.turns.is_called(), true);
             world.counts.wakes += 1;
         }
-        let others = world.sleeping > 0 && world.idle > 0;
+        let others = sleeping > 0 && world.idle > 0;
         let is_heard = world.is_pending || (world.would_notify() && !world.has_chain());
         assert!(!others || is_heard, "nobody serves the next chain: {world:?}");
-        let is_left = world.sleeping > 0 && world.answered > 0;
+        let is_left = sleeping > 0 && world.answered > 0;
         assert!(!is_left || world.is_pending, "nobody takes up an answer: {world:?}");
         let is_silent = world.queue.has_event_index() || !world.is_enabled;
-        assert!(world.sleeping > 0 || is_silent || world.has_failed, "it notifies in vain");
+        let is_excused = world.is_heard || self.is_undoing;
+        assert!(sleeping > 0 || is_silent || is_excused, "it notifies in vain");
         world.has_failed = false;
     }
 
@@ -199,12 +203,19 @@ impl<'l> Thread<'l> {
         loop {
             let mut world = self.looping.lock();
             world.happens();
-            if world.sleeping == 0 || !world.is_pending || world.below(3) == 0 {
+            if !world.has_turn() || world.below(3) == 0 {
                 return;
             }
             drop(world);
             turn(self.looping);
         }
+    }
+}
+
+impl Locked<World> {
+    /// Whether a thread was woken, or comes by itself.
+    fn has_turn(&self) -> bool {
+        self.aside > 0 || (self.is_pending && self.turns.sleeping() > 0)
     }
 }
 
@@ -288,8 +299,9 @@ impl Server<World> for Thread<'_> {
     fn set_notification(&mut self, world: &mut World, enabled: bool) -> Result<bool, Status> {
         world.happens();
         self.worker(world)?;
-        if world.below(12) == 0 {
-            world.has_failed = true;
+        world.is_heard = !enabled && world.below(12) == 0;
+        if world.is_heard || (enabled && world.below(12) == 0) {
+            (world.has_failed, world.told) = (true, None);
             return Err(Status::OutOfMemory);
         }
         world.counts.stores += 1;
@@ -320,34 +332,41 @@ impl Server<World> for Thread<'_> {
     }
 }
 
-/// A thread that was woken has its turn. Whether it has ended.
+/// A thread that was woken has its turn, or one that stepped aside. Whether it has ended.
 fn turn(looping: &Loop<World>) -> bool {
-    let mut thread = Thread::new(looping);
     let mut world = looping.lock();
-    (world.is_pending, world.is_handed) = (false, false);
+    let came = if world.aside > 0 {
+        world.aside -= 1;
+        Came::Back
+    } else {
+        (world.is_pending, world.is_handed) = (false, false);
+        Came::Woken
+    };
+    turn_of(looping, world, came)
+}
+
+fn turn_of(looping: &Loop<World>, mut world: Held<'_, World>, came: Came) -> bool {
     world.counts.turns += 1;
-    let asleep = world.sleeping;
+    let others = world.turns.sleeping() + world.aside as u64 - u64::from(came == Came::Woken);
     drop(world);
-    let rest = looping.serve_all(&mut thread);
+    let rest = serve(looping, &mut Thread::new(looping), came);
     let mut world = looping.lock();
-    assert_eq!(world.sleeping, asleep, "it sleeps again");
-    world.is_pending |= rest == Rest::Again || thread.has_woken();
+    world.is_pending |= has_woken(looping);
+    world.aside += usize::from(rest == Rest::Again);
     world.has_failed = false;
-    if rest == Rest::End {
-        world.sleeping -= 1;
-        world.is_pending = true; // as `Loop::run` does
-    }
+    let waiting = world.turns.sleeping() + world.aside as u64;
+    assert_eq!(waiting, others + u64::from(rest != Rest::End), "it waits again");
     rest == Rest::End
 }
 
 /// Runs the threads until all chains are served. Between, the queue may begin again.
-fn serve(looping: &Loop<World>, threads: usize) {
+fn serve_chains(looping: &Loop<World>, threads: usize) {
     (0..threads).for_each(|_| {
-        turn(looping);
+        turn_of(looping, looping.lock(), Came::Back);
     });
     loop {
         let mut world = looping.lock();
-        if world.is_pending {
+        if world.has_turn() {
             drop(world);
             turn(looping);
             continue;
@@ -376,8 +395,7 @@ fn no_notification_is_lost_by_chance() {
         let mut world = World::new(seed);
         let threads = 1 + world.below(3) as usize;
         let looping = Loop::new(world).unwrap();
-        looping.lock().sleeping = threads;
-        serve(&looping, threads);
+        serve_chains(&looping, threads);
         let mut world = looping.lock();
         assert!(world.is_quiet() && world.queue.in_flight() == 0, "{seed}");
         let Counts { pops, popped, stores, turns, pushed, undone, wakes } = world.counts;
@@ -387,9 +405,8 @@ fn no_notification_is_lost_by_chance() {
         (world.is_ending, world.is_pending) = (true, true);
         drop(world);
         for left in (0..threads).rev() {
-            assert!(turn(&looping) && looping.lock().sleeping == left, "{seed}");
+            assert!(turn(&looping) && looping.lock().turns.sleeping() == left as u64, "{seed}");
         }
-        assert!(looping.lock().would_notify(), "{seed}: the queue's next device hears of it");
     }
     assert!(all.undone > 100 && all.wakes > 100, "{all:?}");
 }

@@ -25,7 +25,7 @@ fn an_event_that_ends_is_removed() {
     let mut server = Fake::default();
     for lost_kicks in [0, 1, 1] {
         looping.look();
-        looping.wait(&mut server, 20_000).unwrap();
+        looping.wait(&mut server).unwrap();
         assert_eq!(server.lost_kicks, lost_kicks);
         assert_eq!(looping.lock().kick.is_none(), lost_kicks > 0);
         if lost_kicks == 0 {
