@@ -1,4 +1,4 @@
-/* pitskhomu_turns.h: the loop of a queue's threads, decided by the library. Until version 2.2 of
+/* pitskhomu_turns.h: the loop of a queue's threads, decided by the library. Until version 1.2 of
  * the library this header may change with each minor version: build with the library's own.
  *
  * A queue has one lock, and one `struct pk_turns` beside it under that lock. A thread that holds

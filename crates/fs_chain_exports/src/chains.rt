@@ -21,7 +21,7 @@ use fs_regions::LoadAhead;
 use std::alloc::Global;
 
 /// The version of the interface (PK_VERSION): its major number by 65536, and its minor number.
-const VERSION: u32 = 0x20000;
+const VERSION: u32 = 0x10000;
 
 /// The version of the interface that the archive has.
 #[unsafe(no_mangle)]

@@ -8,7 +8,7 @@ use crate::memory::{GuestRange as Range, Region, Window};
 use core::ffi::c_void;
 use core::mem::size_of;
 
-pub const VERSION: u32 = 0x20000;
+pub const VERSION: u32 = 0x10000;
 pub const REGIONS_MAX: usize = 64;
 pub const QUEUES_MAX: usize = 64;
 pub const FIRST: usize = 80;
