@@ -20,8 +20,8 @@ def few_threads(program):
     limit = limited(resource.RLIMIT_NPROC, 8)
     with Daemon(program, "--sandbox=none", "--thread-pool-size=16", prepare=as_user,
             preexec_fn=limit) as daemon:
-        of_thread = r"thread \d+ of 16 of queue 1 can't start: .*RLIMIT_NPROC|CreateThreadPool"
-        return judged(daemon, of_thread)
+        # Others may run as that user meanwhile, so any of its threads may be the first too many.
+        return judged(daemon, r"thread.* can't start: .*RLIMIT_NPROC|CreateThreadPool")
 
 
 def little_memory(program):
