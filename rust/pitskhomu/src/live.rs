@@ -81,6 +81,7 @@
 mod events;
 mod loops;
 mod machine;
+mod polling;
 mod seats;
 mod settling;
 mod turns;
@@ -303,6 +304,7 @@ pub struct Builder {
     threads: u16,
     in_flight: u16,
     err: Option<File>,
+    polls: Duration,
 }
 
 impl fmt::Debug for Builder {
@@ -322,7 +324,7 @@ impl Builder {
         regions: &[Region],
     ) -> Builder {
         let mapped = Mapped { memory, regions: regions.to_vec() };
-        Builder { device, mapped, threads: 1, in_flight: 0, err: None }
+        Builder { device, mapped, threads: 1, in_flight: 0, err: None, polls: Duration::ZERO }
     }
 
     /// Sets the number of threads, at least one.
@@ -343,6 +345,14 @@ impl Builder {
     /// ([`Serving::refused`]).
     pub fn err(mut self, err: File) -> Builder {
         self.err = Some(err);
+        self
+    }
+
+    /// Sets for how long a thread looks for chains before it sleeps, at most, and only while they
+    /// come soon ([`Loop::poll_at_most`]). Without this it sleeps at once. It takes processor time
+    /// for shorter waits: 32 microseconds are a good value.
+    pub fn poll_at_most(mut self, time: Duration) -> Builder {
+        self.polls = time;
         self
     }
 
@@ -403,6 +413,7 @@ impl Builder {
         };
         let (threads, err) = (Loop::over(events, state), self.err);
         threads.set_kick(&mut threads.lock(), Some(kick))?;
+        threads.poll_at_most(self.polls);
         let shared =
             Arc::new(Shared { threads, call, err, device: self.device, service, answered });
         let mut serving = Serving { shared, threads: Vec::new() };

@@ -1,13 +1,14 @@
 //! A queue under its lock, and what its threads and its device do with it.
 use super::events::Events;
 use super::machine::Turns;
+use super::polling::Polling;
 use super::turns::Thread;
 use crate::queue::Queue;
 use crate::status::Status;
 use crate::worker::Popped;
 use core::hint;
 use core::ops::{Deref, DerefMut};
-use core::sync::atomic::{AtomicUsize, Ordering};
+use core::sync::atomic::{AtomicBool, AtomicUsize, Ordering};
 use std::fs::File;
 use std::io;
 use std::sync::{Condvar, Mutex, MutexGuard, PoisonError};
@@ -161,6 +162,7 @@ pub struct Locked<Q> {
     pub(super) waiters: usize,
     /// The next chain has addresses that the IOMMU's table doesn't map.
     pub(super) is_missing: bool,
+    pub(super) polling: Polling,
 }
 
 impl<Q> Deref for Locked<Q> {
@@ -196,6 +198,11 @@ impl<Q: Queued> Locked<Q> {
         set: impl FnOnce(&mut Q) -> Result<bool, Status>,
     ) -> Result<bool, Status> {
         Ok(self.queued.may_tell() && set(&mut self.queued)?)
+    }
+
+    /// Whether a thread may look for chains before it sleeps: nobody stops the queue.
+    pub(super) fn may_poll(&self) -> bool {
+        self.queued.is_live() && self.until.is_none() && !self.is_awaited()
     }
 
     /// A number that changes when a chain is popped or returned.
@@ -303,6 +310,21 @@ pub struct Loop<Q> {
     pub(super) events: Events,
     /// The number of threads on their way to the lock, from a call. Each looks for a chain then.
     coming: AtomicUsize,
+    /// A thread looks for chains before it sleeps. It changes under the lock, unless that thread
+    /// panics.
+    is_polled: AtomicBool,
+}
+
+/// A thread looks for chains before it sleeps.
+pub(super) struct Polled<'l, Q: Queued>(&'l Loop<Q>);
+
+impl<Q: Queued> Drop for Polled<'_, Q> {
+    fn drop(&mut self) {
+        self.0.is_polled.store(false, Ordering::SeqCst);
+        if std::thread::panicking() {
+            self.0.look(); // others relied on this thread
+        }
+    }
 }
 
 /// The lock.
@@ -335,9 +357,11 @@ impl<Q: Queued> Loop<Q> {
             until: None,
             waiters: 0,
             is_missing: false,
+            polling: Polling::default(),
         };
         let (state, coming) = (Mutex::new(state), AtomicUsize::new(0));
-        Loop { state, changed: Condvar::new(), events, coming }
+        let is_polled = AtomicBool::new(false);
+        Loop { state, changed: Condvar::new(), events, coming, is_polled }
     }
 
     /// Locks the queue. Chains may be in flight.
@@ -364,9 +388,19 @@ impl<Q: Queued> Loop<Q> {
     }
 
     /// Whether another thread waits for the lock, which this thread has, and looks for a chain
-    /// then.
+    /// then; or looks for one before it sleeps.
     pub(super) fn another_comes(&self) -> bool {
-        self.coming.load(Ordering::SeqCst) > 0
+        self.coming.load(Ordering::SeqCst) > 0 || self.is_polled()
+    }
+
+    pub(super) fn is_polled(&self) -> bool {
+        self.is_polled.load(Ordering::SeqCst)
+    }
+
+    /// A thread that has the lock looks for chains until this is dropped.
+    pub(super) fn begin_to_poll(&self) -> Polled<'_, Q> {
+        self.is_polled.store(true, Ordering::SeqCst);
+        Polled(self)
     }
 
     /// Sets or removes the event of the driver's notifications. Then call `look`, since chains may
@@ -414,6 +448,13 @@ impl<Q: Queued> Loop<Q> {
     pub(super) fn wait_a_moment<'a>(&'a self, state: Held<'a, Q>, time: Duration) -> Held<'a, Q> {
         let waited = self.changed.wait_timeout(state, time);
         waited.unwrap_or_else(PoisonError::into_inner).0
+    }
+
+    /// Has a thread that finds no chain look for one for so long before it sleeps, at most, and
+    /// only while chains come soon. Meanwhile the driver needn't notify. With 0, as at first, it
+    /// sleeps at once.
+    pub fn poll_at_most(&self, time: Duration) {
+        self.lock().polling.set_most(time);
     }
 
     /// Has a thread look for chains, as the driver's notification does.

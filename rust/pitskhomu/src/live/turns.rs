@@ -2,18 +2,22 @@
 //! does it, and says what happened. The calls of `Server` make the loads and stores, with their
 //! barriers. What a thread may report, and what follows from it, is proved over the model of
 //! several threads (crates `notify` and `fs_turns`).
-use super::loops::{Asked, Held, Locked, Loop, Queued, Server};
+use super::loops::{Asked, Held, Locked, Loop, Polled, Queued, Server};
 use super::machine::{Action, Event, Orders, Seen};
+use super::polling::Look;
 use crate::status::Status;
 use crate::worker::Popped;
+use core::hint;
 use std::io;
-use std::time::Duration;
+use std::time::{Duration, Instant};
 
 /// The time until the next try after an allocation failed.
 const AGAIN: Duration = Duration::from_millis(100);
 /// So often a chain's addresses are asked for before other queues have their turn: an IOMMU may
 /// answer, and unmap them again before the answer is used.
 const MOST_ROUNDS: u32 = 64;
+/// A thread that looks for chains leaves the lock for so many pauses.
+const PAUSES: u32 = 2;
 
 /// How a thread came to the lock.
 #[derive(Debug, Clone, Copy, PartialEq, Eq)]
@@ -64,7 +68,7 @@ impl<Q: Queued> Locked<Q> {
 }
 
 /// A thread of the loop.
-pub(super) struct Thread<'l, 's, Q, S> {
+pub(super) struct Thread<'l, 's, Q: Queued, S> {
     looping: &'l Loop<Q>,
     server: &'s mut S,
     /// So often the IOMMU was asked for the next chain.
@@ -75,6 +79,8 @@ pub(super) struct Thread<'l, 's, Q, S> {
     missing: Option<((u64, u16), bool)>,
     /// Why notifications can't be enabled.
     untold: Option<Status>,
+    /// The thread looks for chains before it sleeps.
+    polls: Option<(Look, Polled<'l, Q>)>,
     /// An answer is undone before the thread comes again.
     must_undo: bool,
     /// How the thread ends.
@@ -90,6 +96,7 @@ impl<'l, 's, Q: Queued, S: Server<Q>> Thread<'l, 's, Q, S> {
             asked_for: None,
             missing: None,
             untold: None,
+            polls: None,
             must_undo: false,
             ended: None,
         }
@@ -198,7 +205,7 @@ impl<'l, 's, Q: Queued, S: Server<Q>> Thread<'l, 's, Q, S> {
                 self.begin_chain(state);
                 Event::Popped
             }
-            Ok(Popped::Idle) => Event::Idle { polls: false },
+            Ok(Popped::Idle) => Event::Idle { polls: self.begins_to_poll(state) },
             Ok(Popped::Missing) => {
                 self.missing = Some((state.next_chain(), false));
                 Event::Later
@@ -212,7 +219,18 @@ impl<'l, 's, Q: Queued, S: Server<Q>> Thread<'l, 's, Q, S> {
         }
     }
 
+    /// Whether the thread looks for chains for a while before it sleeps: one thread at a time.
+    fn begins_to_poll(&mut self, state: &mut Locked<Q>) -> bool {
+        if self.looping.is_polled() || !state.may_poll() {
+            return false;
+        }
+        let look = state.polling.begin(Instant::now);
+        self.polls = look.map(|look| (look, self.looping.begin_to_poll()));
+        self.polls.is_some()
+    }
+
     fn begin_chain(&mut self, state: &mut Locked<Q>) {
+        state.polling.end(Instant::now);
         self.rounds = 0;
         state.popped += 1;
         let number = state.popped;
@@ -291,9 +309,27 @@ impl<'l, 's, Q: Queued, S: Server<Q>> Thread<'l, 's, Q, S> {
     /// Asks the IOMMU for what the thread missed, or waits for a moment. It takes no event from a
     /// thread that sleeps.
     fn step_aside(&mut self) -> Held<'l, Q> {
+        if let Some((look, polled)) = self.polls.take() {
+            return self.poll(look, polled);
+        }
         match self.ask_for_missing() {
             Some(state) => state,
             None => self.wait_a_moment(),
+        }
+    }
+
+    /// Looks for a chain, or for an answer to one that waits, for a while.
+    fn poll(&mut self, look: Look, polled: Polled<'l, Q>) -> Held<'l, Q> {
+        let mut next = Some(look);
+        loop {
+            (0..PAUSES).for_each(|_| hint::spin_loop());
+            let mut state = self.looping.lock();
+            let has_more = self.server.has_answered(&state) || self.look(&mut state) == Event::More;
+            next = next.and_then(|look| state.polling.goes_on(look, Instant::now()));
+            if has_more || next.is_none() || !state.may_poll() {
+                drop(polled); // under the lock
+                return state;
+            }
         }
     }
 

@@ -2,6 +2,7 @@
 mod answers;
 mod chance;
 mod events;
+mod polling;
 
 use super::*;
 use crate::live::events::{new_event, signal};
@@ -82,6 +83,10 @@ fn serve<Q: Queued, S: Server<Q>>(looping: &Loop<Q>, server: &mut S, came: Came)
 /// A thread that slept.
 fn serve_all<Q: Queued, S: Server<Q>>(looping: &Loop<Q>, server: &mut S) -> Rest {
     serve(looping, server, Came::Woken)
+}
+
+fn sleeping<Q: Queued>(looping: &Loop<Q>) -> u64 {
+    looping.lock().turns.sleeping()
 }
 
 /// Whether the loop has woken a thread since the last look at it.
