@@ -116,7 +116,7 @@ extern "C" {
 #endif
 /* ---------------------------------------------------------------- numbers */
 #define PK_VERSION 0x10000u      /* of this header, 1.0: the major number << 16 | the minor one */
-#define PK_REGIONS_MAX 64u       /* regions of the guest's memory */
+#define PK_REGIONS_MAX 512u      /* regions of the guest's memory */
 #define PK_QUEUES_MAX 64u        /* queues in a saved record */
 #define PK_LOAD_MAX 4096u        /* bytes of the longest load of a pop */
 #define PK_FIRST 80u             /* bytes of a request to load first */

@@ -77,7 +77,7 @@ alone() {
     local threads
     check_unit
     SECONDS_EACH=${SECONDS_EACH:-60}
-    compile checks checks.c escape.c held.c labels.c platform.c stopped.c wild.c front.c
+    compile checks checks.c escape.c held.c labels.c platform.c slots.c stopped.c wild.c front.c
     compile hostile hostile.c front.c
     compile log log.c front.c
     compile state state.c moved.c front.c
@@ -97,6 +97,7 @@ alone() {
     try checks config
     try checks platform
     try checks memory "${CHANGES:-500}"
+    try checks slots
     try checks two 5
     try checks slow
     try checks leave

@@ -508,6 +508,8 @@ static void run(const char *what, const char *dir, unsigned count) {
         config();
     else if (!strcmp(what, "memory"))
         memory_changes(count);
+    else if (!strcmp(what, "slots"))
+        slots();
     else if (!strcmp(what, "two"))
         two_queues(count);
     else if (!strcmp(what, "slow"))
@@ -551,8 +553,8 @@ static const char *const *options_for(const char *what) {
 int main(int argc, char **argv) {
     if (argc < 4)
         die("usage: checks DAEMON DIR "
-            "escape|readonly|sleeps|pauses|log|rings|config|memory|two|slow|leave|pool|held|groups|"
-            "labels|lists|platform|wild [N]");
+            "escape|readonly|sleeps|pauses|log|rings|config|memory|slots|two|slow|leave|pool|held|"
+            "groups|labels|lists|platform|wild [N]");
     const char *what = argv[3], *dir = argv[2];
     front_begin(&front, argv[1], dir, options_for(what));
     if (!strcmp(what, "log")) front.features |= 1ull << 26;

@@ -193,6 +193,11 @@ BOTH = [
 # What the daemon alone refuses.
 OURS = [
     (
+        BEGIN + "--rlimit-nofile=40 --num-request-queues=3",
+        1,
+        "[ERROR] Maximum number of file descriptors too small: Limit is 40, must be at least 624",
+    ),
+    (
         BEGIN + "--thread-pool-size=1025",
         2,
         "error: invalid value '1025' for '--thread-pool-size <THREAD_POOL_SIZE>': 1025 is "

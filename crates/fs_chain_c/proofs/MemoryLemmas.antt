@@ -100,7 +100,7 @@ stand_apart [] right = absurd (cc)
 stand_apart (r ∷ rest) right = (right, omega (arith))
 
 module _ (regions sorted : List FsRegion) (same : IsPermutation regions sorted) (up : IsNonDecreasingBy (λ (r : FsRegion). r.guest) sorted)
-    (few : length regions ≤ 64) (are : All IsRegion regions) where
+    (few : length regions ≤ 512) (are : All IsRegion regions) where
   memory_of : fault_of (map region_of sorted) ≡ None → RegionsWereRefused (length sorted) → IsNoMemory regions (Of error.OutOfMemory)
   memory_of right refused =
       let apart = stand_apart sorted right in

@@ -34,7 +34,7 @@ StandApart (r ∷ rs) = fault_of (r ∷ rs) ≡ None
 -- a memory of these regions, by ascending address
 abbrev pub IsMemory : List FsRegion → List Region → Type 0
 IsMemory regions memory =
-    (length regions ≤ 64)
+    (length regions ≤ 512)
     × (sorted : List FsRegion)
     × IsPermutation regions sorted
     × All IsRegion sorted
@@ -65,8 +65,8 @@ pub record HasNoRegion (regions : List FsRegion) (status : ℕ) : Type 0 where
 abbrev pub IsNoMemory : List FsRegion → Refusal → Type 0
 IsNoMemory regions (Invalid status) =
     HasNoRegion regions status
-    ⊎ (All IsRegion regions × (64 < length regions) × (status ≡ many_status))
-    ⊎ (All IsRegion regions × (length regions ≤ 64) × DoOverlap regions × (status ≡ overlap_status))
+    ⊎ (All IsRegion regions × (512 < length regions) × (status ≡ many_status))
+    ⊎ (All IsRegion regions × (length regions ≤ 512) × DoOverlap regions × (status ≡ overlap_status))
 IsNoMemory regions (Of OutOfMemory) =
     (0 < length regions)
     × RegionsWereRefused (length regions)

@@ -23,7 +23,7 @@ use std::alloc::Global;
 use vm_bitmaps::PAGE_SIZE;
 
 /// How many regions there are at most.
-const MOST_REGIONS: usize = 64;
+const MOST_REGIONS: usize = 512;
 
 /// A region of the guest's memory.
 #[repr(C)]
@@ -147,8 +147,8 @@ fn memory_of_sorted(alloc: Global, regions: &[FsRegion]) -> Result<GuestRegions,
 fn sorted(regions: &[FsRegion]) -> Option<ArrayVec<FsRegion, MOST_REGIONS>>
     ensures permutation { IfSome result (λ found. IsPermutation regions.now found.items) }
     ensures ascending { IfSome result (λ found. IsNonDecreasingBy (λ (r : FsRegion). r.guest) found.items) }
-    ensures few { OnSome result (length regions.now ≤ 64) }
-    ensures many { IfNone result (64 < length regions.now) }
+    ensures few { OnSome result (length regions.now ≤ 512) }
+    ensures many { IfNone result (512 < length regions.now) }
 {
     let mut found = ArrayVec::<FsRegion, MOST_REGIONS>::new();
     if found.try_extend_from_slice(regions).is_err() {

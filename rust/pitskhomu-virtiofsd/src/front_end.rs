@@ -1,6 +1,6 @@
 //! The front-end's messages (vhost-user), over crate vhost, which reads and checks them. Crate
-//! vhost-user-backend isn't used: it reports 509 memory slots where the library takes 64, marks
-//! pages after the log is gone, and doesn't pass err descriptors on.
+//! vhost-user-backend isn't used: it marks pages after the log is gone, and doesn't pass err
+//! descriptors on.
 //!
 //! An error of kind `ReqHandlerError` is reported to the front-end, if it asked for a reply, and
 //! the daemon continues. After any other error the connection ends.
@@ -31,6 +31,10 @@ use virtiofsd::vhost_user::MAX_TAG_LEN;
 /// passes the bit in `SET_FEATURES` only if the guest has a vIOMMU in front of the device. Then the
 /// addresses of rings and buffers are I/O addresses.
 const ACCESS_PLATFORM: u64 = 1 << VIRTIO_F_ACCESS_PLATFORM;
+
+/// The memory slots that the front-end may use, as many as with vhost in Linux, and with virtiofsd.
+const MEMORY_SLOTS: u64 = 509;
+const _: () = assert!(MEMORY_SLOTS <= pitskhomu::Device::MAX_REGIONS as u64);
 
 /// The state of the connection to one front-end.
 pub struct FrontEnd<F> {
@@ -167,7 +171,7 @@ impl<F: ServedFs> VhostUserBackendReqHandlerMut for FrontEnd<F> {
     }
 
     fn get_max_mem_slots(&mut self) -> Result<u64> {
-        Ok(pitskhomu::Device::MAX_REGIONS as u64)
+        Ok(MEMORY_SLOTS)
     }
 
     fn add_mem_region(&mut self, region: &VhostUserSingleMemoryRegion, file: File) -> Result<()> {

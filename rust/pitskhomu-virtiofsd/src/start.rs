@@ -35,13 +35,16 @@ use virtiofsd::sandbox::{self, Sandbox};
 /// An error before the directory is served.
 type Failure = Box<dyn Error>;
 
-/// The daemon's own descriptors: memory, rings, a migration, and virtiofsd's temporary ones. Each
-/// thread needs one more: it opens a descriptor before it counts it.
+/// The daemon's own descriptors: 509 memory slots, the rings of one request queue, a migration, and
+/// virtiofsd's temporary ones. Each thread needs one more: it opens a descriptor before it counts
+/// it.
 const OWN_DESCRIPTORS: u64 = 609;
+/// The descriptors of each further queue: kick, call, err, and those by which its threads wait.
+const QUEUE_DESCRIPTORS: u64 = 6;
 /// The memory maps of a thread: its stack and its stack for signals, each with a guard page.
 const THREAD_MAPS: u64 = 4;
 /// The other memory maps: the program, its heap, the guest's memory.
-const OWN_MAPS: u64 = 500;
+const OWN_MAPS: u64 = 1000;
 /// With fewer descriptors for the guest there is a warning.
 const FEW_DESCRIPTORS: u64 = 128;
 const DAY: Duration = Duration::from_secs(24 * 60 * 60);
@@ -97,9 +100,9 @@ fn config(
 fn guest_descriptors(options: &Options) -> Result<u64, Failure> {
     let limit = setup_rlimit_nofile(options.rlimit_nofile)
         .map_err(|why| format!("Error increasing number of open files: {why}"))?;
-    let threads =
-        u64::from(options.thread_pool_size.max(1)) * u64::from(options.num_request_queues);
-    let own = OWN_DESCRIPTORS + threads;
+    let queues = u64::from(options.num_request_queues);
+    let threads = u64::from(options.thread_pool_size.max(1)) * queues;
+    let own = OWN_DESCRIPTORS + threads + QUEUE_DESCRIPTORS * (queues - 1);
     let left = limit.checked_sub(own).ok_or_else(|| {
         format!(
             "Maximum number of file descriptors too small: Limit is {limit}, must be at least \

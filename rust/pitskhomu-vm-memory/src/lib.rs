@@ -16,9 +16,11 @@ const PAGE: u64 = 4096;
 /// `PROT_READ | PROT_WRITE` of sys/mman.h.
 const READ_WRITE: i32 = 3;
 
-/// A byte's number has this many bits for the offset in its region. The bits above are the region's
-/// place in the list. So only the library looks an address up.
-const OFFSET_BITS: u32 = usize::BITS - 8;
+/// A byte's number has this many bits for the offset in its region, as many as an x86 processor's
+/// physical address. The bits above are the region's place in the list. So only the library looks
+/// an address up.
+const OFFSET_BITS: u32 = 52;
+const _: () = assert!(Device::MAX_REGIONS <= 1 << (usize::BITS - OFFSET_BITS));
 
 /// What vm-memory's versions name differently.
 mod versions {
@@ -72,6 +74,7 @@ struct Stretch {
 #[derive(Debug, Clone, Default)]
 pub struct MappedMemory<B: Bitmap + 'static = ()> {
     memory: GuestMemoryMmap<B>,
+    /// By ascending address, as vm-memory has them.
     stretches: Vec<Stretch>,
 }
 
@@ -81,7 +84,7 @@ impl<B: Bitmap + 'static> MappedMemory<B> {
     /// # Errors
     /// - `EmptyRegion`, `BadRegionHost`, `BadRegionGuest`, `BadRegionLen`: of the first region that
     ///   isn't of whole pages of 4096 bytes.
-    /// - `BadRegionEnd`: it ends past the last address, or is longer than 2^56 bytes.
+    /// - `BadRegionEnd`: it ends past the last address, or is longer than 2^52 bytes.
     /// - `BadArgument`: it isn't mapped for reads and writes. A store of the worker's would end the
     ///   process.
     /// - `TooManyRegions`: there are more than `Device::MAX_REGIONS`.
@@ -135,10 +138,10 @@ impl<B: Bitmap + 'static> MappedMemory<B> {
 
     /// The number of a guest address.
     fn number(&self, guest: u64) -> Option<usize> {
-        self.stretches.iter().enumerate().find_map(|(k, stretch)| {
-            let offset = guest.checked_sub(stretch.guest).filter(|&offset| offset < stretch.len)?;
-            Some((k << OFFSET_BITS) + usize::try_from(offset).ok()?)
-        })
+        let k = self.stretches.partition_point(|stretch| stretch.guest <= guest).checked_sub(1)?;
+        let Stretch { guest: first, len, .. } = self.stretches[k];
+        let offset = Some(guest - first).filter(|&offset| offset < len)?;
+        Some((k << OFFSET_BITS) + usize::try_from(offset).ok()?)
     }
 
     /// The bytes as vm-memory's slice, if they lie in one region. vm-memory marks the pages that it

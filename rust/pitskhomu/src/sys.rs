@@ -9,7 +9,7 @@ use core::ffi::c_void;
 use core::mem::size_of;
 
 pub const VERSION: u32 = 0x10000;
-pub const REGIONS_MAX: usize = 64;
+pub const REGIONS_MAX: usize = 512;
 pub const QUEUES_MAX: usize = 64;
 pub const FIRST: usize = 80;
 pub const REQUEST_MAX: usize = 0x101000;

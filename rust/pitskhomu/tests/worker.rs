@@ -106,7 +106,7 @@ fn calls_without_memory_or_with_bad_numbers_are_refused() {
         (vec![Region { guest: 0x800, ..region }], Status::BadRegionGuest),
         (vec![Region { len: 0x1800, ..region }], Status::BadRegionLen),
         (vec![Region { guest: !0xfff, len: 0x2000, host: 0 }], Status::BadRegionEnd),
-        (vec![region; 65], Status::TooManyRegions),
+        (vec![region; 513], Status::TooManyRegions),
     ];
     for (regions, status) in bad_regions {
         let refused = guest.worker.set_memory(&guest.device, &regions);

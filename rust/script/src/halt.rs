@@ -68,7 +68,7 @@ impl fmt::Display for Missing {
             Missing::PartOfAPage => {
                 f.write_str("a region of the handle is made of whole pages of 4096 bytes")
             }
-            Missing::ManyRegions => f.write_str("the handle takes at most 64 regions"),
+            Missing::ManyRegions => f.write_str("the handle takes at most 512 regions"),
             Missing::HeaderOverData => {
                 f.write_str("the reply's header lies over its data, and the handle writes it last")
             }
