@@ -4,11 +4,13 @@ use Rattle.std.specs.Prelude.{None, Some}
 use Rattle.vm_memory.specs.Layout.{place}
 use Rattle.vm_memory.specs.Memory.{addresses, stored_all}
 use Rattle.fs_queue.specs.Chain.{IsChain, chain, first_visit, found, path, walk}
-use Rattle.fs_queue.specs.Loads.{AreEntriesInTurn, AreEntriesOf, Reads, ahead_at, ahead_by}
+use Rattle.fs_queue.specs.Loads.{AreEntriesInTurn, AreEntriesOf, IsLoadOf, entry_load, index_load}
+use Rattle.fs_queue.specs.Loads.{Reads, ahead_at, ahead_by}
 use Rattle.fs_queue.specs.Loads.{chain_exactly, found_exactly}
 use Rattle.fs_queue.specs.Paths.{EachFollows, IsPath}
 use Rattle.fs_queue.specs.Returning.{advanced}
-use Rattle.fs_queue.specs.Taking.{offer}
+use Rattle.fs_queue.specs.OfferLoads.{SameReach}
+use Rattle.fs_queue.specs.Taking.{IsRequest, offer, request_and_room}
 use Rattle.vm_values.specs.Fields as fields
 use Rattle.fuse_fs.specs.Calls.{Done, Forget}
 use Rattle.server_requests.specs.Reading.{record_parser}
@@ -16,7 +18,7 @@ use Rattle.server_replies.specs.WholeReplies.{error_bytes}
 use Rattle.virtiofsd_fuse.specs.Examples.{le16, nobody}
 use Rattle.virtiofsd_fuse.specs.Grammar.{meaning, meant, row}
 use Rattle.virtiofsd_fuse.specs.Serving.{May}
-use Rattle.plain_machine.specs.Examples.{queue, request, unknown_exchange, unknown_reply, with_one_request}
+use Rattle.plain_machine.specs.Examples.{blank, queue, request, unknown_exchange, unknown_reply, with_one_request}
 use Rattle.plain_machine.specs.Run.{KickRun, Performs, RunReported, effect}
 use Rattle.plain_machine.specs.Step.{Exchanged, Step}
 use Rattle.plain_machine.specs.StepBy.{StepBy, offered_by}
@@ -134,3 +136,24 @@ first_is_entry = (refl, tt)
 pub first_leads : ahead_by 4 (first_load ∷ []) (ahead_at 4 (first_visit queue 0)) ≡ Some (Reads second_step)
 unfolding ahead_by place addresses
 first_leads = refl
+
+pub fetches_two : request_and_room with_one_request 0x101000 two_descriptors ≡ IsRequest request (addresses 0x2000 16)
+unfolding place addresses stored_all
+fetches_two = refl
+
+pub fetches_three : request_and_room with_three 0x101000 three_descriptors ≡ IsRequest request (addresses 0x2800 16)
+unfolding place addresses stored_all
+fetches_three = refl
+
+pub index_is : IsLoadOf with_one_request 2 (index_load queue unknown_loads.index)
+unfolding place addresses stored_all
+index_is = refl
+
+pub entry_is : IsLoadOf with_one_request 2 (entry_load queue unknown_loads.entry)
+unfolding place addresses stored_all
+entry_is = refl
+
+-- of these memories, which differ in bytes, the same addresses are mapped
+pub reach_alike : SameReach with_one_request blank queue unknown_loads.entries
+unfolding stored_all addresses place
+reach_alike = record { element = refl; index = refl; flags = refl; chain = λ head ds is. (refl, refl) }

@@ -102,10 +102,14 @@ with_three =
     put with_one_request 0 (descriptor_bytes 0x1000 16 1 1 ++ descriptor_bytes 0x1010 24 1 2
     ++ descriptor_bytes 0x2800 16 2 0)
 
+-- the visit of an entry of the queue's table, after as many descriptors
+abbrev pub visit_at : (index : ℕ) → Visit
+visit_at index =
+    record { table = record { address = 0; entries = 4; indirect = false }; index = index; earlier = index }
+
 -- the second step of the walk through its chain
 abbrev pub second_step : Visit
-second_step =
-    record { table = record { address = 0; entries = 4; indirect = false }; index = 1; earlier = 1 }
+second_step = visit_at 1
 
 -- ---- 32 bytes at 0, where the guest wrote two bytes at 5
 

@@ -111,7 +111,12 @@ pub fn step_by_loads<F: FileSystem>()
 
 /// A request in one piece, and the same in two with another reply buffer, are served alike.
 pub fn cut_a_request<F: FileSystem>()
-    ensures { (page_size options : ℕ) (before after : F) (calls : Calls) (given : ServedMessage)
+    ensures cuts { (page_size options : ℕ) (before after : F) (calls : Calls) (given : ServedMessage)
+        → ServesRequest F.may page_size options request (length (addresses 0x2000 16)) before calls
+        given after
+        ↔ ServesRequest F.may page_size options request (length (addresses 0x2800 16)) before calls
+        given after }
+    ensures offers { (page_size options : ℕ) (before after : F) (calls : Calls) (given : ServedMessage)
         → ServesRequest F.may page_size options request (length (addresses 0x2000 16)) before calls
         given after
         ↔ ServesRequest F.may page_size options request (length (addresses 0x2800 16)) before calls

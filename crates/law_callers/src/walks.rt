@@ -1,16 +1,18 @@
 //! Callers of the theorems on walks: over a chain of two descriptors, by its loads.
 
-ghost use Rattle.std.specs.Prelude.{◌≡◌, ℕ, ◌≤◌, [], ◌∷◌, ◌++◌, flat_map, length, List, Option, Some, zip};
+ghost use Rattle.std.specs.Prelude.{◌≡◌, ℕ, ◌+◌, ◌<◌, ◌≤◌, [], ◌∷◌};
+ghost use Rattle.std.specs.Prelude.{◌++◌, flat_map, length, List, Option, Some, zip};
 ghost use Rattle.vm_memory.specs.Memory.{Memory};
 ghost use Rattle.fs_queue.specs.AnyLoads.{IsReadIn, OneForEach, ahead_of_head, loads_by};
 ghost use Rattle.fs_queue.specs.Chain.{Found, IsChain, Visit, chain, entry_address, first_visit, path, walk};
-ghost use Rattle.fs_queue.specs.Loads.{AreEntriesOf, Load, chain_by, chain_exactly, found_in_turn, ahead_at};
-ghost use Rattle.fs_queue.specs.OfferLoads.{HasLoads, offer_by};
+ghost use Rattle.fs_queue.specs.Loads.{AreEntriesOf, Load, chain_by, chain_exactly, found_in_turn};
+ghost use Rattle.fs_queue.specs.Loads.{RingStill, ahead_at};
+ghost use Rattle.fs_queue.specs.OfferLoads.{AreLoadsOf, HasLoads, SameReach, offer_by};
 ghost use Rattle.fs_queue.specs.Paths.{ComesTo, Follows, IsFront, IsPath};
 ghost use Rattle.fs_queue.specs.Returning.{stores_after_reply, writes, writes_of};
 ghost use Rattle.fs_queue.specs.Taking.{Offer, offer};
-ghost use Rattle.plain_machine.specs.Examples.{queue, with_one_request};
-ghost use Rattle.law_callers.specs.Worked.{first_load, second_step, two_descriptors, unknown_loads};
+ghost use Rattle.plain_machine.specs.Examples.{blank, queue, with_one_request};
+ghost use Rattle.law_callers.specs.Worked.{first_load, second_step, two_descriptors, unknown_loads, visit_at};
 
 use fs_queue::laws::{law_any_loads, law_loads, law_paths, law_returns, law_walks_end};
 
@@ -55,6 +57,14 @@ pub fn load_a_chain()
         → offer_by m 0x101000 queue h.index h.entry h.entries h.request ≡ Some o
         → o ≡ offer m 0x101000 queue }
     ensures offers { (m : Memory) → HasLoads m 0x101000 queue }
+    ensures ring { RingStill with_one_request queue unknown_loads.index unknown_loads.entry }
+    ensures places { (index entry : Option (List ℕ)) (request : List ℕ)
+        → offer_by with_one_request 0x101000 queue index entry unknown_loads.entries request
+        ≡ offer_by blank 0x101000 queue index entry unknown_loads.entries request }
+    ensures offers_confined { (m n : Memory) (h : HasLoads m 0x101000 queue)
+        → SameReach m n queue h.entries
+        → AreLoadsOf n queue h.index h.entry h.entries h.request
+        → offer m 0x101000 queue ≡ offer n 0x101000 queue }
 {
     law_loads();
 }
@@ -75,6 +85,10 @@ pub fn load_anything()
         → 6 ≤ length came
         → (f : Found) × (chain_by (loads_by 4 came (ahead_of_head queue 0)) queue 0 ≡ Some f) }
     ensures read { IsReadIn 4 unknown_loads.entries (first_visit queue 0) (IsChain two_descriptors) }
+    ensures apart { (i j : ℕ)
+        → entry_address (visit_at i) < entry_address (visit_at j) + 16
+        → entry_address (visit_at j) < entry_address (visit_at i) + 16
+        → i ≡ j }
     ensures once { OneForEach 4 unknown_loads.entries (ahead_of_head queue 0) }
 {
     law_loads();

@@ -1,9 +1,11 @@
 use Rattle.std.proofs.Common.{[], ◌∷◌}
 use Rattle.fs_queue.specs.Chain.{IsChain}
 use Rattle.fs_queue.specs.Loads.{Reads}
-use Rattle.plain_machine.specs.Examples.{queue, with_one_request}
+use Rattle.fs_queue.specs.Taking.{offer}
+use Rattle.plain_machine.specs.Examples.{blank, queue, with_one_request}
 use Rattle.law_callers.specs.Worked.{first_load, second_step, two_descriptors, unknown_loads}
-use Rattle.law_callers.proofs.Steps.{chain_is_found_exactly, entries_are, entries_in_turn, first_is_entry, first_leads}
+use Rattle.law_callers.proofs.Steps.{chain_is_found_exactly, entries_are, entries_in_turn, entry_is, first_is_entry}
+use Rattle.law_callers.proofs.Steps.{first_leads, index_is, reach_alike}
 use Rattle.law_callers.proofs.walks.load_a_chain.Goals as goal
 
 pub returns-clause-still : goal.returns-clause-still
@@ -39,3 +41,15 @@ returns-clause-offer c m h o offered =
 
 pub returns-clause-offers : goal.returns-clause-offers
 returns-clause-offers c m = c.law_loads.ensures.offer_finds m 0x101000 queue
+
+pub returns-clause-ring : goal.returns-clause-ring
+returns-clause-ring c = c.law_loads.ensures.ring with_one_request queue unknown_loads.index unknown_loads.entry index_is entry_is
+
+pub returns-clause-places : goal.returns-clause-places
+returns-clause-places c index entry request =
+    c.law_loads.ensures.places with_one_request blank 0x101000 queue index entry unknown_loads.entries request reach_alike
+
+pub returns-clause-offers_confined : goal.returns-clause-offers_confined
+returns-clause-offers_confined c m n h alike are =
+    c.law_loads.ensures.offers_confined m n 0x101000 queue h.index h.entry h.entries h.request (offer m 0x101000 queue) alike h.are are
+    h.offered
