@@ -95,17 +95,17 @@ fn number_after(text: &[u8], file: &[u8]) -> Option<u32> {
 /// Refuses an archive that lacks what the crate calls (`pk_is_compatible`).
 fn compare_versions(archive: &Path, bytes: &[u8]) {
     let needed = number_after(NEEDED, include_bytes!("src/sys.rs")).expect("sys.rs has it");
-    let version = number_after(VERSION, bytes).unwrap_or(needed);
     let (major, minor) = (needed >> 16, needed & 0xffff);
-    if version >> 16 != major || version < needed {
-        refuse(&format!(
-            "{} has version {}.{} of the C interface, and this crate needs {major}.{minor} or a \
-             later {major}.N: take both from one release",
-            archive.display(),
-            version >> 16,
-            version & 0xffff
-        ));
-    }
+    let has = match number_after(VERSION, bytes) {
+        Some(version) if version >> 16 == major && version >= needed => return,
+        Some(version) => format!("version {}.{}", version >> 16, version & 0xffff),
+        None => "an earlier version".into(),
+    };
+    refuse(&format!(
+        "{} has {has} of the C interface, and this crate needs {major}.{minor} or a later \
+         {major}.N: take both from one release",
+        archive.display()
+    ));
 }
 
 /// Links the archive, and warns if it isn't proved.

@@ -54,6 +54,8 @@ fn an_archive_of_another_version_is_not_linked() {
         );
         assert_eq!(linked(&folder.0, of(version).as_bytes()), (false, wanted));
     }
+    let (is_linked, told) = linked(&folder.0, b"!<arch>\n\0pk_build\0");
+    assert!(!is_linked && told.contains("has an earlier version of the C interface"), "{told}");
     let (is_linked, told) = linked(&folder.0, b"!<arch>\n\0pk_version\0");
     assert!(!is_linked && told.contains("isn't a libpitskhomu.a"), "{told}");
 }
