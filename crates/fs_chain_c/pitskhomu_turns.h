@@ -9,13 +9,16 @@
  * PROVED: each function has the effect of its event in the machine of crates/fs_turns, of which
  * law_no_turn_is_lost says that no turn is lost, by any number of threads, in any order, if
  *  1. a thread holds the lock from the call of an event until the library returns an action that
- *     releases it;
- *  2. an event says what happened: see each function;
- *  3. each thread performs its actions; an event for the threads (an eventfd) isn't lost between
- *     two waits, and a thread that takes it calls pk_turn_woken next;
+ *     releases it, and from a push or drop to pk_turn_back;
+ *  2. an event says what happened: see each function. A pop goes by the available index that any
+ *     thread of the queue loaded last: pk_pop_ring does, with one `struct pk_ring` under the lock;
+ *  3. each thread performs its actions, and nobody else pops, pushes, or stores what
+ *     pk_set_notification returns. An event for the threads (an eventfd) isn't lost between two
+ *     waits, and a thread that takes it calls pk_turn_woken next;
  *  4. a thread whose answer comes after its chain began to wait first adds the chain to those that
  *     wait for a thread, and then signals the threads' event;
- *  5. the driver keeps VIRTIO 1.2, 2.7.13 and 2.7.14. */
+ *  5. who resets the queue calls pk_turns_reset, or pk_turns_begin if no thread serves it;
+ *  6. the driver keeps VIRTIO 1.2, 2.7.13 and 2.7.14. */
 #ifndef PITSKHOMU_TURNS_H
 #define PITSKHOMU_TURNS_H
 #include "pitskhomu.h"
@@ -53,7 +56,7 @@ enum pk_action {
     PK_INTERRUPT = 512, /* interrupt the driver, before the thread answers or sleeps */
 };
 
-/* A queue that no thread serves yet. */
+/* A queue that no thread serves yet. `event_index`, here and below: as in its struct pk_queue. */
 void pk_turns_begin(struct pk_turns *turns, uint32_t event_index) PK_NONNULL(1);
 /* The queue was reset, by a thread that holds the lock, while others may sleep. Signal the threads'
  * event then. Returns 1, or 0 if a thread has an action to perform: then nothing changed. */

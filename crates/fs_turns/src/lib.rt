@@ -17,11 +17,13 @@ use notify::law_no_lost_notification;
 /// Any number of threads that do what [`Turns::next`] returns and report what they did, beside any
 /// driver that keeps VIRTIO 1.2 (2.7.13, 2.7.14), with `VIRTIO_F_EVENT_IDX` or without, are a run of
 /// the model of notifications.
-/// - While a thread sleeps and no thread is going to look, no chain is available that the driver has
-///   checked, unless the queue is paused, and no chain waits whose answer came later.
-/// - While a push wants an interrupt, a thread has yet to make one, or holds the lock. So while the
-///   driver sleeps and chains are used, an interrupt is on its way, or the same holds.
+/// - While a thread sleeps and no thread is going to look, no chain waits whose answer came later. And
+///   no chain is available: unless the queue is paused, or as many chains are in flight as may be, or
+///   the driver has yet to check whether to notify, or to notify.
+/// - While a push wants an interrupt, a thread has yet to make one, or holds the lock.
 /// - Both hold also if the queue was reset while threads slept ([`Turns::reset`]).
+/// - Without a reset: while the driver sleeps, and more chains are used than it chose to sleep through,
+///   an interrupt is on its way, or a thread has yet to make one, or holds the lock.
 pub fn law_no_turn_is_lost()
     ensures none_lost { NoTurnIsLost }
     ensures none_forgotten { NoInterruptIsLost }
