@@ -140,7 +140,8 @@ enum pk_status {
     PK_USED_UNREACHABLE = 6,        /* the used element or index, or avail_event, isn't mapped */
     PK_AVAIL_FLAGS_UNREACHABLE = 7, /* the available flags, or used_event, aren't mapped */
     PK_DESCRIPTOR_UNREACHABLE = 8,  /* a descriptor of the queue's own table isn't mapped */
-    PK_OUT_OF_MEMORY = 9, /* an allocation failed, and nothing changed: call again later */
+    PK_OUT_OF_MEMORY = 9, /* an allocation failed, and nothing changed: call again later. If it
+                             was a pop, call pk_drop first */
     PK_LOAD = 32,         /* load these bytes, and call again with them */
     PK_IDLE = 33,         /* no chain is available: sleep, as NOTIFICATIONS says */
     PK_MORE = 34,         /* pass `needed` bytes of the request, from its start */

@@ -1,5 +1,8 @@
 /* pitskhomu_ring.h: a pop and a push in one call each, over regions that are mapped in this
- * process. pitskhomu.h includes it for GCC and Clang. Inline functions: tested, not proved. */
+ * process. pitskhomu.h includes it for GCC and Clang. Inline functions: tested, not proved.
+ * With -fsanitize=thread GCC warns of the barriers: add -Wno-tsan. If the driver runs in the same
+ * process, the sanitizer may report a race with pk_ring_load. It also loads descriptors that lie
+ * behind the chain's, and that the driver may be writing: the library ignores these. */
 #if defined(__GNUC__) && !defined(PITSKHOMU_RING_H)
 #define PITSKHOMU_RING_H
 
@@ -144,7 +147,8 @@ static inline void pk_ring_guess(const struct pk_queue *queue, struct pk_ring *r
 }
 
 /* Pops the next available chain, with its loads: pk_pop_ahead, and pk_pop for what is left. Returns
- * any status of pk_pop but PK_LOAD. The first pop after PK_IDLE loads the available index again. */
+ * any status of pk_pop but PK_LOAD. The first pop after PK_IDLE loads the available index again. An
+ * error that leaves the pop under way (as PK_OUT_OF_MEMORY): call pk_drop before the next one. */
 static inline uint32_t pk_pop_ring(struct pk_chain *chain, struct pk_queue *queue,
                                    struct pk_ring *ring, struct pk_pop_result *pop) {
     struct pk_ring_loads loads;

@@ -1,10 +1,13 @@
 /* pitskhomu_turns.h: the loop of a queue's threads, decided by the library. Until version 1.2 of
  * the library this header may change with each minor version: build with the library's own.
  *
- * A queue has one lock, and one `struct pk_turns` beside it under that lock. A thread that holds
+ * A queue has one lock, and one `struct pk_turns` beside it under that lock. Each thread of it has
+ * a struct pk_chain of its own, takes the lock, and begins with pk_turn_back. A thread that holds
  * the lock calls the function of what happened, does what that returns, and calls the function of
  * what happened then. Threads that do so lose no chain and no answer, and forget no interrupt: they
- * keep the rules of NOTIFICATIONS in pitskhomu.h. examples/c/live.c is such a loop.
+ * keep the rules of NOTIFICATIONS in pitskhomu.h. examples/c/live.c is such a loop. There one
+ * eventfd is the threads' event: the driver's notifications signal it, and a thread that got
+ * PK_WAKE_ONE does.
  *
  * PROVED: each function has the effect of its event in the machine of crates/fs_turns, of which
  * law_no_turn_is_lost says that no turn is lost, by any number of threads, in any order, if
@@ -38,8 +41,8 @@ struct pk_turns {
     uint8_t reserved;
 };
 
-/* What a function returns: an action (in the bits PK_DO), PK_WAKE_ONE and PK_INTERRUPT. For RESUME
- * to MUTE the thread keeps the lock. */
+/* What a function returns: an action, in the bits PK_DO. For RESUME to MUTE the thread keeps the
+ * lock. The other actions may have PK_WAKE_ONE and PK_INTERRUPT besides. */
 enum pk_action {
     PK_DO_WRONG = 0,      /* the event can't happen now: a mistake of the loop. Nothing changed */
     PK_DO_RESUME = 1,     /* take up a chain whose answer came later: _resumed, _none_resumed */
@@ -56,7 +59,8 @@ enum pk_action {
     PK_INTERRUPT = 512, /* interrupt the driver, before the thread answers or sleeps */
 };
 
-/* A queue that no thread serves yet. `event_index`, here and below: as in its struct pk_queue. */
+/* A queue that no thread serves yet. `event_index`, here and in pk_turns_reset: as in its struct
+ * pk_queue. It isn't checked: with another one the threads may sleep while chains are available. */
 void pk_turns_begin(struct pk_turns *turns, uint32_t event_index) PK_NONNULL(1);
 /* The queue was reset, by a thread that holds the lock, while others may sleep. Signal the threads'
  * event then. Returns 1, or 0 if a thread has an action to perform: then nothing changed. */
@@ -66,7 +70,8 @@ uint32_t pk_turns_reset(struct pk_turns *turns, uint32_t event_index) PK_CHECK(1
  * pk_turn_back: not 0 if a chain may wait whose answer came later. */
 uint32_t pk_turn_woken(struct pk_turns *turns, uint32_t answers_wait) PK_CHECK(1);
 /* The thread didn't sleep, and has the lock: it has begun, or stepped aside, or has pushed, dropped
- * or abandoned its chain, or left it to wait for its answer. `notify`: as pk_pushed returned it. */
+ * or abandoned its chain, or left it to wait for its answer. `notify`: as pk_pushed returned it,
+ * else 0. Don't notify the driver for it yourself: PK_INTERRUPT says when. */
 uint32_t pk_turn_back(struct pk_turns *turns, uint32_t notify, uint32_t answers_wait) PK_CHECK(1);
 /* The thread took up a chain whose answer came later. `another`: another such chain may wait. The
  * last three are as in pk_turn_popped. */
@@ -85,11 +90,14 @@ uint32_t pk_turn_popped(struct pk_turns *turns, uint16_t next_avail, uint32_t is
 uint32_t pk_turn_idle(struct pk_turns *turns, uint32_t polls, uint16_t next_avail) PK_CHECK(1);
 /* `max_in_flight` are in flight (PK_CHAIN_IN_FLIGHT). */
 uint32_t pk_turn_full(struct pk_turns *turns) PK_CHECK(1);
-/* No chain is popped for now, as for a stop: signal the threads' event when one may be again. */
+/* No chain is popped for now, as while the VM is stopped: signal the threads' event when one may be
+ * again. */
 uint32_t pk_turn_paused(struct pk_turns *turns) PK_CHECK(1);
-/* An allocation failed, or the IOMMU hasn't answered (PK_OUT_OF_MEMORY, PK_MISS). */
+/* An allocation failed (PK_OUT_OF_MEMORY: call pk_drop first), or the IOMMU hasn't answered
+ * (PK_MISS). */
 uint32_t pk_turn_later(struct pk_turns *turns) PK_CHECK(1);
-/* The queue is refused, or the thread is to end. */
+/* The queue is refused (1 to 8), or the thread is to end: PK_DO_STOP, with PK_WAKE_ONE if another
+ * thread sleeps. So all threads end, if each calls this in place of its next pop. */
 uint32_t pk_turn_refused(struct pk_turns *turns) PK_CHECK(1);
 
 /* Notifications are enabled for `next_avail`: the store was made, and then a full barrier. */
