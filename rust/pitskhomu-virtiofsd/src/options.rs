@@ -104,6 +104,18 @@ pub struct Options {
     /// NFS server) delays the later requests of its queue. 0 means one thread, as 1 does.
     #[arg(long, default_value_t = 0, value_parser = clap::value_parser!(u16).range(0..=1024))]
     pub thread_pool_size: u16,
+    /// For how many microseconds, at most, a thread looks for requests before it sleeps
+    ///
+    /// While requests come soon after each other, one thread of a queue looks for the next one, and
+    /// saves the wake-ups of guest and daemon. A thread that looked in vain looks no more until
+    /// requests come soon again. 0 sleeps at once, as virtiofsd does.
+    #[arg(
+        long,
+        default_value_t = 0,
+        value_name = "MICROSECONDS",
+        value_parser = clap::value_parser!(u32).range(0..=10_000)
+    )]
+    pub poll_max_us: u32,
     /// How the daemon is confined to the shared directory: namespace, chroot, none
     ///
     /// - namespace: The directory is the root of a mount namespace. The daemon has a process and a

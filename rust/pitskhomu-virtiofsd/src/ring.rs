@@ -23,6 +23,7 @@ use std::fs::File;
 use std::io;
 use std::sync::atomic::{AtomicBool, AtomicUsize};
 use std::sync::{Arc, MutexGuard};
+use std::time::Duration;
 pub use waits::{Numbers as RingNumbers, Patience, LAST_CHAINS};
 
 /// The greatest queue size that the library allows.
@@ -256,6 +257,11 @@ impl Ring {
         if state.set(change) && state.is_live() {
             self.look();
         }
+    }
+
+    /// Has a thread look for chains for so long before it sleeps, at most (`Loop::poll_at_most`).
+    pub fn poll_at_most(&self, time: Duration) {
+        self.served.poll_at_most(time);
     }
 
     /// Has a thread look for chains.

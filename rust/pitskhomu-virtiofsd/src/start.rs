@@ -243,6 +243,7 @@ struct Serving {
     tag: Option<String>,
     request_queues: usize,
     threads: u16,
+    polls: Duration,
     capabilities: capabilities::Changes,
     seccomp: crate::options::Seccomp,
     syslog: bool,
@@ -264,6 +265,7 @@ impl Serving {
             tag: options.tag.take(),
             request_queues: options.num_request_queues.into(),
             threads: options.thread_pool_size.max(1),
+            polls: Duration::from_micros(options.poll_max_us.into()),
             capabilities,
             seccomp: options.seccomp,
             syslog: options.syslog,
@@ -284,6 +286,7 @@ impl Serving {
         let Serving { request_queues, threads, flags, cache, always_agreed, .. } = self;
         let parts = Parts { fs, request_queues, threads, flags, cache, always_agreed };
         let core = Arc::new(Core::new(parts)?);
+        core.rings.iter().for_each(|ring| ring.poll_at_most(self.polls));
         logger::lead_errors()?;
         capabilities::give_up(&self.capabilities)?;
         system_calls::limit(self.seccomp, self.syslog)?; // new threads inherit it

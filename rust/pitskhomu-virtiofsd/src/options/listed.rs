@@ -26,6 +26,7 @@ const FREE: &[&str] = &[
     "migration-verify-handles",
     "negative-timeout",
     "no-flush",
+    "poll-max-us",
     "print-capabilities",
     "rlimit-nofile",
     "seccomp",
