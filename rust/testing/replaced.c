@@ -389,6 +389,8 @@ int main(int argc, char **argv) {
         liars(&r, count);
     else if (!strcmp(part, "held"))
         held(&r);
+    else if (!strcmp(part, "between"))
+        try_between(&r, argv[1], argv[2], options);
     else
         die("no such part: %s", part);
     replaced_end(&r);

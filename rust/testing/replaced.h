@@ -36,10 +36,10 @@ bool log_has(const struct replaced *r, const char *words);
 /* The front-end still reaches the one that serves. */
 void check_messages(struct replaced *r);
 
-/* A stretch of rings' memory stays as it is. */
 void pause_ms(int milliseconds);
 
-/* Between two daemons: stops at each message (between.c). */
-void try_between(struct replaced *r);
+/* Between two daemons: each is killed, and each message is held, cut and changed (between.c). */
+void try_between(struct replaced *r, const char *server, const char *dir,
+                 const char *const *options);
 
 #endif

@@ -341,7 +341,7 @@ static uint64_t make_dir(struct front *front, const char *text) {
     static struct reply reply;
     struct {
         struct fuse_mkdir_in in;
-        char name[24];
+        char name[40];
     } body = {.in = {.mode = 0755}};
     struct fuse_entry_out entry;
     snprintf(body.name, sizeof body.name, "%s", text);
@@ -371,12 +371,14 @@ static void make_file(const char *dir, const char *folder, const char *text) {
 }
 
 void stream_begin(struct stream *stream, struct front *front, size_t slots, bool unlinks_open) {
-    *stream = (struct stream){.front = front, .slots = slots, .unlinks_open = unlinks_open};
+    static unsigned serial;
+    *stream = (struct stream){
+        .front = front, .slots = slots, .unlinks_open = unlinks_open, .serial = serial++};
     for (size_t ring = 1; ring < RINGS; ring++) {
         for (size_t k = 0; k < slots; k++) {
             struct slot *slot = &stream->rings[ring].slots[k];
-            char folder[24], text[24];
-            snprintf(folder, sizeof folder, "slot-%zu-%zu", ring, k);
+            char folder[40], text[24];
+            snprintf(folder, sizeof folder, "slot-%u-%zu-%zu", stream->serial, ring, k);
             slot->dir = make_dir(front, folder);
             for (unsigned n = 0; n < NAMES; n++) {
                 snprintf(text, sizeof text, "keep%u", n);
@@ -399,8 +401,8 @@ void stream_begin(struct stream *stream, struct front *front, size_t slots, bool
 
 static void check_log(const struct stream_ring *r, const struct slot *slot) {
     char path[400];
-    snprintf(path, sizeof path, "%s/slot-%zu-%zu/log", r->stream->front->dir, r->ring,
-             number_of(r, slot));
+    snprintf(path, sizeof path, "%s/slot-%u-%zu-%zu/log", r->stream->front->dir,
+             r->stream->serial, r->ring, number_of(r, slot));
     FILE *file = fopen(path, "r");
     if (!file) die("%s: %s", path, strerror(errno));
     for (uint64_t at = 0; at < slot->logged; at++)

@@ -30,7 +30,8 @@ struct stream {
     /* A file is removed while it is open, and read and written after that: the back-end must find
      * inodes by file handles. */
     bool unlinks_open;
-    size_t slots; /* of each ring */
+    size_t slots;    /* of each ring */
+    unsigned serial; /* of the streams of a program */
     atomic_bool stops;
     atomic_ulong requests;
     struct stream_ring rings[RINGS];

@@ -213,7 +213,7 @@ pub fn run(mut options: Options, logger: &Logger) -> Result<(), Failure> {
         .enter(listener)
         .map_err(|e| format!("Error entering sandbox: {shared_dir}: {}", sandbox_error(e)))?;
     fd_table::widen(scratch.as_fd()); // after the sandbox's fork, and before other threads
-    control.enter();
+    control.enter()?;
 
     let proc_self_fd = sandbox.get_proc_self_fd();
     asked.enter(proc_self_fd.as_ref());

@@ -28,6 +28,19 @@ pub struct Control {
     pub record: Record,
     /// A file in memory for the state.
     pub pipe: File,
+    /// Both ends of a pipe. The other daemon gets the reading one, which ends when this one dies.
+    pub life: Option<(OwnedFd, OwnedFd)>,
+}
+
+/// A pipe, which no other process has.
+fn life() -> io::Result<(OwnedFd, OwnedFd)> {
+    let mut ends = [0; 2];
+    // SAFETY: the numbers are borrowed mutably.
+    if unsafe { libc::pipe2(ends.as_mut_ptr(), libc::O_CLOEXEC | libc::O_NONBLOCK) } != 0 {
+        return Err(io::Error::last_os_error());
+    }
+    // SAFETY: the descriptors are new, and nothing else owns them.
+    Ok(unsafe { (OwnedFd::from_raw_fd(ends[0]), OwnedFd::from_raw_fd(ends[1])) })
 }
 
 /// Whether a path lies in a directory, also if the two have other names.
@@ -113,13 +126,17 @@ impl Control {
             _ => None,
         };
         let pipe = state::scratch().map_err(|e| format!("a file in memory: {e}"))?;
-        Ok(Control { listener, number, pid: std::process::id(), user: 0, record, pipe })
+        let (pid, user, life) = (std::process::id(), 0, None);
+        Ok(Control { listener, number, pid, user, record, pipe, life })
     }
 
-    /// The daemon is in its sandbox, where its user may have another number.
-    pub fn enter(&mut self) {
+    /// The daemon is in its sandbox, where its user may have another number. The process that waits
+    /// outside has no copy of the pipe.
+    pub fn enter(&mut self) -> io::Result<()> {
         // SAFETY: no memory is touched.
         self.user = unsafe { libc::getuid() };
+        self.life = Some(life()?);
+        Ok(())
     }
 
     /// Writes this daemon's number to the PID file.

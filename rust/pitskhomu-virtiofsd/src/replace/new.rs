@@ -1,13 +1,14 @@
 //! The new daemon: is ready, answers the old one's messages as a front-end's, and takes over.
 use super::take::Take;
 use super::wire::{receive, send};
-use super::{Control, Own, Record};
+use super::{Control, Own, Record, PATIENCE};
 use crate::front_end::FrontEnd;
 use crate::iommu::messages::{self, Head, HEAD_LEN};
 use crate::serve::ServedFs;
 use log::warn;
 use std::io::{self, IoSliceMut};
 use std::os::fd::{AsRawFd, FromRawFd, OwnedFd, RawFd};
+use vmm_sys_util::epoll::{ControlOperation, Epoll, EpollEvent, EventSet};
 
 /// The longest reason of a refusal that is logged.
 const REASON_MAX: usize = 4096;
@@ -20,8 +21,8 @@ pub struct Old(RawFd);
 enum Word {
     Go,
     Refused(String),
-    /// It died after it had offered all.
-    Dead,
+    /// The connection ended before: the old daemon died, or somebody between the two has left.
+    None,
 }
 
 impl Old {
@@ -65,8 +66,9 @@ impl Old {
         let mut sent = |is_sent: bool| if is_sent { fds.next() } else { None };
         let socket = sent(received.len == bytes.len());
         let socket = socket.ok_or_else(|| io::Error::other("TAKE without the front-end"))?;
-        let [listener, number, channel] =
-            [Take::CONTROL, Take::NUMBER, Take::CHANNEL].map(|bit| sent(take.with & bit != 0));
+        let [listener, number, channel, life] =
+            [Take::CONTROL, Take::NUMBER, Take::CHANNEL, Take::LIFE]
+                .map(|bit| sent(take.with & bit != 0));
         let old = replace(self.0, &socket)?;
         drop(socket);
         front_end.connect(self.0)?;
@@ -77,7 +79,10 @@ impl Old {
         )?;
         match word(old.as_raw_fd())? {
             Word::Go => {}
-            Word::Dead => warn!("the old daemon died, and this one serves"),
+            Word::None if life.is_some_and(|life| has_ended(&life)) => {
+                warn!("the old daemon died, and this one serves");
+            }
+            Word::None => return Err(io::Error::other("the connection has ended")),
             Word::Refused(why) => return Err(io::Error::other(why)),
         }
         (control.listener, control.number) = (listener, number.map(Into::into));
@@ -115,13 +120,25 @@ fn replace(number: RawFd, socket: &OwnedFd) -> io::Result<OwnedFd> {
     Ok(old)
 }
 
+/// Whether this pipe ends, in a while at most: a process that dies closes one descriptor after
+/// another.
+fn has_ended(life: &OwnedFd) -> bool {
+    let ended = Epoll::new().and_then(|events| {
+        let event = EpollEvent::new(EventSet::empty(), 0);
+        events.ctl(ControlOperation::Add, life.as_raw_fd(), event)?;
+        #[allow(clippy::cast_possible_truncation, reason = "it is a second")]
+        events.wait(PATIENCE.as_millis() as i32, &mut [EpollEvent::default()])
+    });
+    ended.is_ok_and(|count| count > 0)
+}
+
 /// Waits for the old daemon's decision.
 fn word(old: RawFd) -> io::Result<Word> {
     let mut head = [0; HEAD_LEN];
     match receive(old, &mut head, libc::MSG_WAITALL) {
         Ok(received) if received.len == HEAD_LEN => {}
         Err(e) if e.kind() == io::ErrorKind::Interrupted => return word(old),
-        _ => return Ok(Word::Dead),
+        _ => return Ok(Word::None),
     }
     let head = Head::of(&head);
     match Own::of(head.request) {

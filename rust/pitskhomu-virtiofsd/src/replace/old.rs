@@ -223,6 +223,7 @@ impl<F: ServedFs> Giving<'_, F> {
             (self.control.listener.as_ref().map(AsRawFd::as_raw_fd), Take::CONTROL),
             (self.control.number.as_ref().map(AsRawFd::as_raw_fd), Take::NUMBER),
             (socket.as_ref().map(AsRawFd::as_raw_fd), Take::CHANNEL),
+            (self.control.life.as_ref().map(|(reader, _)| reader.as_raw_fd()), Take::LIFE),
         ] {
             if let Some(fd) = fd {
                 fds.push(fd);

@@ -20,6 +20,8 @@ impl Take {
     pub const NUMBER: u64 = 2;
     /// The back-end's channel.
     pub const CHANNEL: u64 = 4;
+    /// A pipe that closes when the old daemon dies.
+    pub const LIFE: u64 = 8;
     /// The length of the words in bytes.
     pub const LEN: usize = 32;
 
