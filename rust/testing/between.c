@@ -12,7 +12,7 @@
 #include <sys/un.h>
 #include <unistd.h>
 
-enum { MESSAGE_MAX = 1 << 17, FDS_MAX = 16, TAKE = 0x504b0001, TAKEN, GO, REFUSED };
+enum { MESSAGE_MAX = 1 << 17, FDS_MAX = 16, TAKE = 0x504b0001, TAKEN, GO };
 enum action { PASS, KILL_NEW, KILL_OLD, SILENCE, CUT, CHANGE };
 enum end { OLD_SERVES, NEW_SERVES, NONE_SERVES };
 
@@ -196,20 +196,22 @@ static void check_silence(struct replaced *r) {
     enum { LEN = 2 * REGION_LEN };
     static uint8_t before[LEN];
     char byte;
-    memcpy(before, r->front.memory, LEN);
+    memcpy(before, r->front->memory, LEN);
     pause_ms(50);
-    if (memcmp(before, r->front.memory, LEN)) die("the guest's memory changes");
-    if (recv(r->front.connection, &byte, 1, MSG_DONTWAIT) != 0)
-        die("the front-end's socket is open yet");
+    if (memcmp(before, r->front->memory, LEN)) die("the guest's memory changes");
+    for (int ms = 0; recv(r->front->connection, &byte, 1, MSG_DONTWAIT) != 0; ms++) {
+        if (ms == 5000) die("the front-end's socket is open yet");
+        pause_ms(1);
+    }
 }
 
 /* One action at each step, under load. */
 static void at_each_step(struct replaced *r, enum action action, unsigned steps,
-                         const char *name) {
-    unsigned ends[2] = {0, 0};
+                         unsigned stride, const char *name) {
+    unsigned ends[2] = {0, 0}, count = 0;
     double longest = 0;
-    stream_begin(&r->stream, &r->front, 4, false);
-    for (unsigned at = 0; at < steps; at++) {
+    stream_begin(&r->stream, r->front, 4, false);
+    for (unsigned at = stride - 1; at < steps; at += stride, count++) {
         stream_gap(&r->stream);
         ends[run(r, at, action, NULL)]++;
         check_messages(r);
@@ -217,40 +219,42 @@ static void at_each_step(struct replaced *r, enum action action, unsigned steps,
         if (gap > longest) longest = gap;
     }
     stream_end(&r->stream);
-    printf("%s at each of %u steps: the old one continues %u times, the new one serves %u times; "
+    printf("%s at %u of %u steps: the old one continues %u times, the new one serves %u times; "
            "longest gap %.0f ms\n",
-           name, steps, ends[OLD_SERVES], ends[NEW_SERVES], longest);
+           name, count, steps, ends[OLD_SERVES], ends[NEW_SERVES], longest);
     if (longest > 3000) die("a guest waits for %.0f ms", longest);
 }
 
 void try_between(struct replaced *r, const char *server, const char *dir,
-                 const char *const *options) {
-    unsigned steps = 0, served = 0;
-    stream_begin(&r->stream, &r->front, 4, false);
+                 const char *const *options, unsigned stride) {
+    unsigned steps = 0, served = 0, count = 0;
+    stream_begin(&r->stream, r->front, 4, false);
     for (int tries = 0; run(r, 0, PASS, &steps) != NEW_SERVES; tries++)
         if (tries == 10) die("it isn't replaced");
     stream_end(&r->stream);
-    at_each_step(r, KILL_NEW, steps, "the new one is killed");
-    at_each_step(r, CUT, steps, "a message is cut");
-    at_each_step(r, CHANGE, steps, "a number is changed");
-    at_each_step(r, SILENCE, steps, "silence");
-    for (unsigned at = 0; at < steps; at++) {
+    at_each_step(r, KILL_NEW, steps, stride, "the new one is killed");
+    at_each_step(r, CUT, steps, stride, "a message is cut");
+    at_each_step(r, CHANGE, steps, stride, "a number is changed");
+    at_each_step(r, SILENCE, steps, stride, "silence");
+    /* the last one is TAKEN's or GO's */
+    for (unsigned left = steps; left > 0; left -= left < stride ? left : stride, count++) {
+        unsigned at = left - 1;
         enum end end = run(r, at, KILL_OLD, NULL);
         if (end == NEW_SERVES) {
             check_messages(r);
-            look_up(&r->front, 1, "file");
+            look_up(r->front, 1, "file");
             served++;
             replaced_end(r);
         } else if (end == NONE_SERVES) {
             check_silence(r);
-            close(r->front.connection);
+            close(r->front->connection);
             unlink(r->control);
         } else {
             die("step %u: the old one was killed, and serves", at);
         }
         replaced_begin(r, server, dir, options, 10);
     }
-    printf("the old one is killed at each of %u steps: the new one serves %u times\n", steps,
+    printf("the old one is killed at %u of %u steps: the new one serves %u times\n", count, steps,
            served);
     if (!served) die("a new one must serve if the old one dies after TAKE");
 }

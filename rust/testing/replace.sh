@@ -15,7 +15,7 @@ try_replaced() {
 }
 
 compile_replaced() {
-    compile replaced replaced.c stream.c front.c
+    compile replaced replaced.c replaced_parts.c between.c stream.c iommu.c front.c
 }
 
 # A few minutes: all refusals and failures, and some replacements.

@@ -2,10 +2,11 @@
 #ifndef REPLACED_H
 #define REPLACED_H
 #include "front.h"
+#include "iommu.h"
 #include "stream.h"
 
 struct replaced {
-    struct front front;
+    struct front *front; /* iommu.c's */
     struct stream stream;
     char folder[64], control[80], log[80];
     const char *const *options; /* of each daemon, ending with NULL */
@@ -13,7 +14,8 @@ struct replaced {
     int count, refused;
 };
 
-/* Starts a daemon with a control socket, a session, and so many nodes that the guest holds. */
+/* Starts a daemon with a control socket, a session, and so many nodes that the guest holds. With
+ * IOMMU=1 of the environment the driver is behind an IOMMU. */
 void replaced_begin(struct replaced *r, const char *server, const char *dir,
                     const char *const *options, size_t nodes);
 
@@ -32,14 +34,23 @@ bool replace(struct replaced *r, const char *const *more);
 
 /* Whether the log of the last new daemon has these words. */
 bool log_has(const struct replaced *r, const char *words);
+void show_log(const struct replaced *r);
 
 /* The front-end still reaches the one that serves. */
 void check_messages(struct replaced *r);
 
 void pause_ms(int milliseconds);
 
+/* Parts of the test (replaced_parts.c). */
+void refusals(struct replaced *r);
+void kills(struct replaced *r, int count);
+void race(struct replaced *r, int count);
+void liars(struct replaced *r, int count);
+void held(struct replaced *r);
+void logged(struct replaced *r);
+
 /* Between two daemons: each is killed, and each message is held, cut and changed (between.c). */
 void try_between(struct replaced *r, const char *server, const char *dir,
-                 const char *const *options);
+                 const char *const *options, unsigned stride);
 
 #endif

@@ -66,3 +66,7 @@ const PATIENCE: Duration = Duration::from_secs(1);
 const PATIENCE_BYTES: u64 = 1 << 20;
 /// How long the guest's state may be prepared, while the guest runs.
 const PREPARATION: Duration = Duration::from_secs(if cfg!(test) { 2 } else { 20 });
+/// How often a daemon is tried that may succeed in a moment, and the pause between two tries: the
+/// guest forgets a file that it has removed, and a call of the host's ends.
+const TRIES: u32 = 6;
+const PAUSE: Duration = Duration::from_millis(200);

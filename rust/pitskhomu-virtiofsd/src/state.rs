@@ -116,6 +116,12 @@ pub fn load<F: ServedFs>(core: &Core<F>, scratch: &File, pipe: File) -> io::Resu
     receive(&core.fs, &core.device, settings, scratch, pipe)
 }
 
+/// How many nodes of a state of this daemon's no other daemon can find.
+pub fn lost_nodes(state: &[u8]) -> io::Result<usize> {
+    let (state, _) = split(state.to_vec())?;
+    inner::lost_nodes(&state)
+}
+
 /// The two parts of a state: virtiofsd's own, as virtiofsd wrote it, and the library's record, if
 /// the state has one.
 type Halves = (Vec<u8>, Option<Vec<u8>>);

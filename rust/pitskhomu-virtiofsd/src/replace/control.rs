@@ -11,6 +11,7 @@ use std::os::unix::net::{UnixListener, UnixStream};
 use std::path::{Path, PathBuf};
 use std::ptr;
 use vhost::vhost_user::Listener;
+use virtiofsd::passthrough::MigrationOnError;
 
 /// The control socket, the PID file, and the rest that a daemon needs to replace another or to be
 /// replaced.
@@ -26,6 +27,9 @@ pub struct Control {
     pub user: u32,
     /// What the daemon says of itself.
     pub record: Record,
+    /// A node that another daemon wouldn't find is answered EIO there
+    /// (`--migration-on-error=guest-error`).
+    pub may_lose: bool,
     /// A file in memory for the state.
     pub pipe: File,
     /// Both ends of a pipe. The other daemon gets the reading one, which ends when this one dies.
@@ -127,7 +131,8 @@ impl Control {
         };
         let pipe = state::scratch().map_err(|e| format!("a file in memory: {e}"))?;
         let (pid, user, life) = (std::process::id(), 0, None);
-        Ok(Control { listener, number, pid, user, record, pipe, life })
+        let may_lose = options.migration_on_error == MigrationOnError::GuestError;
+        Ok(Control { listener, number, pid, user, record, may_lose, pipe, life })
     }
 
     /// The daemon is in its sandbox, where its user may have another number. The process that waits

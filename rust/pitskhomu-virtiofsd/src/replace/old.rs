@@ -7,8 +7,9 @@ use crate::front_end::{Agreed, FrontEnd};
 use crate::memory::Table;
 use crate::ring::{Handed, Ring};
 use crate::serve::{Core, ServedFs};
+use crate::state;
 use log::info;
-use std::io;
+use std::io::{self, Read, Seek};
 use std::os::fd::{AsRawFd, OwnedFd, RawFd};
 use std::sync::Arc;
 use std::time::Instant;
@@ -36,24 +37,30 @@ struct Giving<'g, F> {
     agreed: Agreed,
 }
 
+/// Why a daemon doesn't take over.
+pub enum Kept {
+    /// It may succeed in a moment: this is its socket.
+    Now(OwnedFd, String),
+    /// The new daemon is told, or has ended.
+    ForGood(io::Error),
+}
+
 /// Gives all to the daemon at the other end of `heir`. After `Ok` this one may only end.
 pub fn give<F: ServedFs>(
     front_end: &mut FrontEnd<F>,
     control: &Control,
-    (socket, heir): (RawFd, OwnedFd),
-) -> io::Result<()> {
+    sockets: (RawFd, OwnedFd),
+) -> Result<(), Kept> {
     let begun = Instant::now();
-    let core = front_end.core().clone();
-    let to = Successor::new(heir, begun + PATIENCE)?;
-    let agreed = front_end.agreed()?;
-    let rings = core.rings.iter().map(Ring::handed).collect::<io::Result<_>>()?;
-    let mut giving = Giving { front_end, core, control, socket, to, rings, agreed };
+    let mut giving = Giving::new(front_end, control, sockets, begun).map_err(Kept::ForGood)?;
     let given = giving.run(begun);
-    if let Err(why) = &given {
-        giving.front_end.stay();
-        giving.to.refuse(&why.to_string());
+    let Err(why) = given else { return Ok(()) };
+    giving.front_end.stay();
+    if why.kind() == Giving::<F>::IN_A_MOMENT {
+        return Err(Kept::Now(giving.to.into_socket(), why.to_string()));
     }
-    given
+    giving.to.refuse(&why.to_string());
+    Err(Kept::ForGood(why))
 }
 
 /// A ring's index and a number, as `SET_VRING_NUM` has them.
@@ -66,7 +73,23 @@ fn region_words(region: &VhostUserMemoryRegion) -> [u64; 4] {
     [region.guest_phys_addr, region.memory_size, region.user_addr, region.mmap_offset]
 }
 
-impl<F: ServedFs> Giving<'_, F> {
+impl<'g, F: ServedFs> Giving<'g, F> {
+    /// The kind of an error that may be none in a moment.
+    const IN_A_MOMENT: io::ErrorKind = io::ErrorKind::ResourceBusy;
+
+    fn new(
+        front_end: &'g mut FrontEnd<F>,
+        control: &'g Control,
+        (socket, heir): (RawFd, OwnedFd),
+        begun: Instant,
+    ) -> io::Result<Giving<'g, F>> {
+        let core = front_end.core().clone();
+        let to = Successor::new(heir, begun + PATIENCE)?;
+        let agreed = front_end.agreed()?;
+        let rings = core.rings.iter().map(Ring::handed).collect::<io::Result<_>>()?;
+        Ok(Giving { front_end, core, control, socket, to, rings, agreed })
+    }
+
     fn run(&mut self, begun: Instant) -> io::Result<()> {
         let memory = self.core.memory();
         self.agree()?;
@@ -80,7 +103,7 @@ impl<F: ServedFs> Giving<'_, F> {
             None => self.move_state().and_then(|()| self.offer()).and_then(|()| self.to.go()),
             Some(held) => {
                 let why = format!("the host holds a call of the guest's: {held}");
-                Err(io::Error::other(why))
+                Err(io::Error::new(Self::IN_A_MOMENT, why))
             }
         };
         if moved.is_err() {
@@ -169,6 +192,7 @@ impl<F: ServedFs> Giving<'_, F> {
             self.start_ring(index)?;
         }
         let len = self.front_end.save(&self.control.pipe, Instant::now() + PATIENCE)?;
+        self.check_state()?;
         #[allow(clippy::cast_possible_truncation, reason = "a state has at most 1 GB")]
         let longer = PATIENCE * (len / PATIENCE_BYTES) as u32;
         self.to.set_end(Instant::now() + PATIENCE + longer);
@@ -179,7 +203,8 @@ impl<F: ServedFs> Giving<'_, F> {
             &[self.control.pipe.as_raw_fd()],
         )?;
         if set & 0xff != 0 || self.to.ask(FrontendReq::CHECK_DEVICE_STATE, &[], &[])? != 0 {
-            return Err(io::Error::other("the new daemon can't load the state: its log says why"));
+            let why = "the new daemon can't load the state: its log says why";
+            return Err(io::Error::new(Self::IN_A_MOMENT, why));
         }
         let Agreed { features, protocol, log, logs } = &self.agreed;
         if let Some((file, offset, len)) = log {
@@ -193,6 +218,26 @@ impl<F: ServedFs> Giving<'_, F> {
         let words: Vec<u8> = protocol.to_ne_bytes().into();
         self.to.say(FrontendReq::SET_PROTOCOL_FEATURES as u32, &words, &[])?;
         self.to.ask(FrontendReq::GET_FEATURES, &[], &[]).map(|_| ())
+    }
+
+    /// Refuses a state with a node that the new daemon wouldn't find.
+    fn check_state(&self) -> io::Result<()> {
+        if self.control.may_lose {
+            return Ok(());
+        }
+        let (mut pipe, mut state) = (&self.control.pipe, Vec::new());
+        pipe.read_to_end(&mut state)?;
+        pipe.rewind()?;
+        match state::lost_nodes(&state)? {
+            0 => Ok(()),
+            count => {
+                let why = format!(
+                    "{count} files that the guest holds have no path any more: they were removed, \
+                     or their names aren't UTF-8 (--migration-mode=file-handles needs no path)"
+                );
+                Err(io::Error::new(Self::IN_A_MOMENT, why))
+            }
+        }
     }
 
     fn start_ring(&self, index: usize) -> io::Result<()> {

@@ -37,6 +37,11 @@ impl Successor {
         Ok(Successor { socket, events, end })
     }
 
+    /// The socket.
+    pub fn into_socket(self) -> OwnedFd {
+        self.socket
+    }
+
     /// From here on it has until then.
     pub fn set_end(&mut self, end: Instant) {
         self.end = end;

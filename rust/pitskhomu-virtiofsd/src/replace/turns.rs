@@ -1,10 +1,10 @@
 //! The turns of the front-end's thread: messages of the front-end, and those of daemons that take
 //! over.
-use super::old::{give, refuse};
-use super::{Control, Next, Old, Record, Waits};
+use super::old::{give, refuse, Kept};
+use super::{Control, Next, Old, Record, Waits, PAUSE, TRIES};
 use crate::front_end::FrontEnd;
 use crate::serve::ServedFs;
-use log::{info, warn};
+use log::{debug, info, warn};
 use std::io;
 use std::os::fd::{OwnedFd, RawFd};
 use std::sync::{Mutex, MutexGuard, PoisonError};
@@ -77,9 +77,7 @@ impl<'t, F: ServedFs> Turns<'t, F> {
                 Next::Ready(socket, record) => self.choose(socket, &record),
                 Next::Prepared => true,
                 Next::Left => self.leave("it has ended"),
-                Next::Late => self.leave(
-                    "the guest's state isn't prepared in time: the host may hold a call for it",
-                ),
+                Next::Late => self.try_again(),
             };
             if is_ready && self.give() {
                 return Ok(Turn::Replaced);
@@ -101,7 +99,7 @@ impl<'t, F: ServedFs> Turns<'t, F> {
             refuse(socket, &why);
             return false;
         }
-        if let Err(e) = waits.choose(socket) {
+        if let Err(e) = waits.choose(socket, 1, None) {
             warn!("no other daemon can take over: {e}");
             return false;
         }
@@ -109,11 +107,23 @@ impl<'t, F: ServedFs> Turns<'t, F> {
         front_end.is_prepared() == Some(true)
     }
 
+    /// A pause is over, or the state isn't prepared in time. Returns whether it is prepared.
+    fn try_again(&mut self) -> bool {
+        if !self.waits.as_mut().is_some_and(Waits::resume_chosen) {
+            return self.leave(
+                "the guest's state isn't prepared in time: the host may hold a call for it",
+            );
+        }
+        let mut front_end = self.front_end();
+        front_end.prepare();
+        front_end.is_prepared() == Some(true)
+    }
+
     /// The chosen daemon doesn't take over.
     fn leave(&mut self, why: &str) -> bool {
-        if let Some(socket) = self.waits.as_mut().and_then(Waits::take_chosen) {
+        if let Some(chosen) = self.waits.as_mut().and_then(Waits::take_chosen) {
             warn!("a daemon doesn't take over: {why}");
-            refuse(socket, why);
+            refuse(chosen.socket, why);
             self.front_end().stay();
         }
         false
@@ -123,6 +133,9 @@ impl<'t, F: ServedFs> Turns<'t, F> {
     /// it serves from here on.
     fn give(&mut self) -> bool {
         let is_prepared = self.front_end().is_prepared();
+        if !self.waits.as_ref().is_some_and(Waits::prepares) {
+            return false;
+        }
         match is_prepared {
             Some(true) => {}
             Some(false) => return false,
@@ -131,15 +144,29 @@ impl<'t, F: ServedFs> Turns<'t, F> {
         let Some(heir) = self.waits.as_mut().and_then(Waits::take_chosen) else { return false };
         let mut front_end = self.front_end();
         if let Some(why) = front_end.keeps_daemon() {
-            refuse(heir, why);
+            refuse(heir.socket, why);
             return false;
         }
-        match give(&mut front_end, &self.control, (self.socket, heir)) {
-            Ok(()) => true,
-            Err(why) => {
+        match give(&mut front_end, &self.control, (self.socket, heir.socket)) {
+            Ok(()) => return true,
+            Err(Kept::Now(socket, why)) => self.postpone(socket, heir.tries, &why),
+            Err(Kept::ForGood(why)) => {
                 warn!("a daemon doesn't take over, and this one continues: {why}");
-                false
             }
+        }
+        false
+    }
+
+    /// Tries it again in a moment, for this reason, unless it was tried often.
+    fn postpone(&mut self, socket: OwnedFd, tries: u32, why: &str) {
+        let Some(waits) = &mut self.waits else { return };
+        if tries == TRIES {
+            warn!("a daemon doesn't take over, and this one continues: {why}");
+            return refuse(socket, why);
+        }
+        debug!("a daemon doesn't take over yet: {why}");
+        if let Err(e) = waits.choose(socket, tries + 1, Some(PAUSE)) {
+            warn!("no other daemon can take over: {e}");
         }
     }
 }

@@ -6,7 +6,7 @@ use log::{debug, warn};
 use std::io::{self, ErrorKind};
 use std::os::fd::{AsRawFd, FromRawFd, OwnedFd, RawFd};
 use std::ptr;
-use std::time::Instant;
+use std::time::{Duration, Instant};
 use vmm_sys_util::epoll::{ControlOperation, Epoll, EpollEvent, EventSet};
 
 /// So many processes may be connected without having said READY. One more has the first leave.
@@ -28,9 +28,9 @@ pub enum Next {
     Ready(OwnedFd, Record),
     /// The state is prepared.
     Prepared,
-    /// The daemon for which the state is prepared has left.
+    /// The daemon that would take over next has left.
     Left,
-    /// The state isn't prepared in time.
+    /// The state isn't prepared in time, or the pause before another try is over.
     Late,
 }
 
@@ -41,14 +41,24 @@ struct Caller {
     bytes: Vec<u8>,
 }
 
+/// The daemon that takes over next.
+#[derive(Debug)]
+pub struct Chosen {
+    pub socket: OwnedFd,
+    /// How often it was tried.
+    pub tries: u32,
+    /// It is tried again then: no state is prepared until then.
+    pub is_paused: bool,
+    end: Instant,
+}
+
 /// The waits of the front-end's thread.
 pub struct Waits {
     events: Epoll,
     control: RawFd,
     user: u32,
     callers: Vec<Caller>,
-    /// The daemon for which the state is prepared, and until when.
-    chosen: Option<(OwnedFd, Instant)>,
+    chosen: Option<Chosen>,
 }
 
 impl Caller {
@@ -100,7 +110,7 @@ impl Waits {
     pub fn next(&mut self) -> io::Result<Next> {
         loop {
             let left = match &self.chosen {
-                Some((_, end)) => end.saturating_duration_since(Instant::now()).as_millis(),
+                Some(chosen) => chosen.end.saturating_duration_since(Instant::now()).as_millis(),
                 None => u128::MAX,
             };
             let left = i32::try_from(left).map_or(-1, |left| left + 1); // in whole milliseconds
@@ -171,24 +181,45 @@ impl Waits {
         }
     }
 
-    /// Whether the state is prepared for a daemon.
+    /// Whether a daemon takes over already.
     pub fn has_chosen(&self) -> bool {
         self.chosen.is_some()
     }
 
-    /// The state is prepared for this daemon, which may leave meanwhile.
-    pub fn choose(&mut self, socket: OwnedFd) -> io::Result<()> {
+    /// This daemon takes over next, as soon as the state is prepared, or in a while. It may leave
+    /// meanwhile.
+    pub fn choose(
+        &mut self,
+        socket: OwnedFd,
+        tries: u32,
+        pause: Option<Duration>,
+    ) -> io::Result<()> {
         let event = EpollEvent::new(EventSet::empty(), CHOSEN);
         self.events.ctl(ControlOperation::Add, socket.as_raw_fd(), event)?;
-        self.chosen = Some((socket, Instant::now() + PREPARATION));
+        let (end, is_paused) = (Instant::now() + pause.unwrap_or(PREPARATION), pause.is_some());
+        self.chosen = Some(Chosen { socket, tries, is_paused, end });
         Ok(())
     }
 
-    /// The daemon for which the state was prepared. There is none from here on.
-    pub fn take_chosen(&mut self) -> Option<OwnedFd> {
-        let (socket, _) = self.chosen.take()?;
+    /// The pause of the chosen daemon is over. Returns whether it had one.
+    pub fn resume_chosen(&mut self) -> bool {
+        let Some(chosen) = self.chosen.as_mut().filter(|chosen| chosen.is_paused) else {
+            return false;
+        };
+        (chosen.is_paused, chosen.end) = (false, Instant::now() + PREPARATION);
+        true
+    }
+
+    /// Whether the state is to be prepared for a daemon now.
+    pub fn prepares(&self) -> bool {
+        self.chosen.as_ref().is_some_and(|chosen| !chosen.is_paused)
+    }
+
+    /// The chosen daemon. There is none from here on.
+    pub fn take_chosen(&mut self) -> Option<Chosen> {
+        let chosen = self.chosen.take()?;
         let none = EpollEvent::default();
-        let _ = self.events.ctl(ControlOperation::Delete, socket.as_raw_fd(), none);
-        Some(socket)
+        let _ = self.events.ctl(ControlOperation::Delete, chosen.socket.as_raw_fd(), none);
+        Some(chosen)
     }
 }

@@ -153,6 +153,13 @@ fn correct(handles: &mut [Handle], host: OpenFlags) -> bool {
     differs
 }
 
+/// The number of nodes that have no place.
+pub fn lost_nodes(state: &[u8]) -> io::Result<usize> {
+    let read = postcard::from_bytes::<State>(state).map_err(io::Error::other)?;
+    let (State::V1(parts) | State::V2(parts, _)) = &read;
+    Ok(parts.nodes.iter().filter(|node| matches!(node.place, Place::Lost)).count())
+}
+
 /// Refuses a state with a number that can't be, and one with more bytes. Returns it with the flags
 /// of open files that apply on the host: a state of virtiofsd has the guest's own.
 pub fn for_host(state: Vec<u8>, host: OpenFlags) -> io::Result<Vec<u8>> {
@@ -225,6 +232,19 @@ mod tests {
             parts.nodes[0].place = place;
             checked(parts).expect("a state");
         }
+    }
+
+    #[test]
+    fn lost_nodes_are_counted() {
+        let lost = |parts: Parts| {
+            let state = State::V2(parts, BTreeMap::new());
+            lost_nodes(&postcard::to_stdvec(&state).expect("bytes")).expect("a state")
+        };
+        assert_eq!(lost(parts()), 0);
+        let mut one = parts();
+        one.nodes[0].place = Place::Lost;
+        assert_eq!(lost(one), 1);
+        assert!(lost_nodes(b"").is_err());
     }
 
     #[test]
