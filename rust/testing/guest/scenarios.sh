@@ -515,3 +515,44 @@ scenario_suite() {
     done
     run umount /disk/mnt
 }
+
+# Sums of all files of a directory.
+sums_of() { (cd "$1" && find . -type f | sort | xargs sha256sum); }
+
+# The daemon is replaced meanwhile, until the host says stop. Each line WRONG is a failure. A file
+# that is open and removed goes on, if the daemon finds it by its handle.
+replaced() {
+    local k=0 wanted kept=$1
+    mount -t virtiofs shared /mnt
+    wanted=$(sums_of /mnt/files/one)
+    exec 8>> /mnt/work/appended
+    if [ "$kept" = kept ]; then
+        exec 7<> /mnt/work/removed
+        rm /mnt/work/removed
+    fi
+    (while [ ! -e /mnt/work/stop ]; do
+        [ "$(sha256sum < /mnt/files/m8)" = "$(sha256sum < /mnt/files/m8)" ] || echo WRONG reader
+        echo 1 > /proc/sys/vm/drop_caches
+    done) &
+    echo READY
+    while [ ! -e /mnt/work/stop ]; do
+        cp -a /mnt/files/one /mnt/work/tree
+        [ "$(sums_of /mnt/work/tree)" = "$wanted" ] || echo "WRONG copy $k"
+        mv /mnt/work/tree /mnt/work/moved || echo "WRONG mv $k"
+        head -c 300000 /dev/urandom > /tmp/chance
+        cp /tmp/chance /mnt/work/written
+        echo "line $k" >&8
+        [ "$kept" != kept ] || echo "kept $k" >&7
+        echo 3 > /proc/sys/vm/drop_caches
+        cmp /tmp/chance /mnt/work/written || echo "WRONG bytes $k"
+        [ "$(ls /mnt/files/many | wc -l)" = 300 ] || echo "WRONG names $k"
+        rm -r /mnt/work/moved /mnt/work/written || echo "WRONG rm $k"
+        k=$((k + 1))
+    done
+    wait
+    [ "$(wc -l < /mnt/work/appended)" = $k ] || echo WRONG lines
+    [ "$kept" != kept ] || [ "$(wc -l < /proc/self/fd/7)" = $k ] || echo WRONG removed file
+    echo "ROUNDS $k"
+}
+scenario_replaced() { replaced ''; }
+scenario_kept_replaced() { replaced kept; }
