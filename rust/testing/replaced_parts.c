@@ -67,7 +67,8 @@ void kills(struct replaced *r, int count) {
         /* the process in the sandbox, which is its child, and it */
         kill(-new, SIGKILL);
         if (wait_for(new, 5000) < 0) die("it isn't killed");
-        if (wait_for(r->serving, 30) == 0) die("killed right after it took over: try again");
+        if (wait_for(r->serving, 30) == 0)
+            die("it was killed right after it took over, as any daemon may be: try it again");
         killed++;
     }
     stream_end(&r->stream);

@@ -117,8 +117,8 @@ pub fn load<F: ServedFs>(core: &Core<F>, scratch: &File, pipe: File) -> io::Resu
 }
 
 /// How many nodes of a state of this daemon's no other daemon can find.
-pub fn lost_nodes(state: &[u8]) -> io::Result<usize> {
-    let (state, _) = split(state.to_vec())?;
+pub fn lost_nodes(state: Vec<u8>) -> io::Result<usize> {
+    let (state, _) = split(state)?;
     inner::lost_nodes(&state)
 }
 

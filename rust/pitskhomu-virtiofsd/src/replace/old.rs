@@ -228,7 +228,7 @@ impl<'g, F: ServedFs> Giving<'g, F> {
         let (mut pipe, mut state) = (&self.control.pipe, Vec::new());
         pipe.read_to_end(&mut state)?;
         pipe.rewind()?;
-        match state::lost_nodes(&state)? {
+        match state::lost_nodes(state)? {
             0 => Ok(()),
             count => {
                 let why = format!(
