@@ -89,10 +89,11 @@ pid_t take_over(struct replaced *r, const char *control, const char *const *more
     if (pid == 0) {
         int log = open(r->log, O_CREAT | O_TRUNC | O_WRONLY | O_APPEND, 0644);
         dup2(log, 2);
-        setsid();
+        setpgid(0, 0);
         execv(argv[0], (char *const *)(uintptr_t)argv);
         _exit(127);
     }
+    setpgid(pid, pid); /* so it and its children can be killed from here on */
     return pid;
 }
 

@@ -12,9 +12,10 @@
 //!    the IOMMU. The new one makes all ready, and answers TAKEN;
 //! 5. decides, and sends GO or REFUSED. After GO it only ends.
 //!
-//! Only the old one decides, and the new one obeys: it serves after GO, or if the old one died after
-//! TAKE (a pipe of its own has ended); else it ends. So at most one of them has its rings enabled.
-//! Before GO any failure, or the death of the new one, has the old one enable its rings again.
+//! Only the old one decides, and the new one obeys: it serves after GO, or if the old one died
+//! after TAKE (a pipe of its own has ended); else it ends. So at most one of them has its rings
+//! enabled. Before GO any failure, or the death of the new one, has the old one enable its rings
+//! again.
 //!
 //! No kick is lost: no daemon reads the counter of the driver's event, and a ring that is enabled
 //! looks for chains. An interrupt may be owed, so the new one interrupts each driver once. Messages
