@@ -59,7 +59,10 @@ def definitions(path):
     crate, inner = place(path, "definition")
     lines = (TOP / path).read_text(encoding="utf-8").split("\n")
     for name, (first, last, shared) in here.blocks.items():
-        text = "\n".join([shared, *lines[first:last + 1]])
+        # How an operator binds may be said elsewhere in the file.
+        binds = [line for line in lines[:first] + lines[last + 1:]
+            if re.match(r"\s*infix", line) and f"◌{name}◌" in line]
+        text = "\n".join([shared, *binds, *lines[first:last + 1]])
         yield ("definition", path, name), crate, inner + name, sum_of(text, "antt",
             functools.partial(means_in_specs, here))
 
