@@ -26,7 +26,7 @@ const VERSION: u32 = 0x10000;
 /// The version of the interface that the archive has.
 #[unsafe(no_mangle)]
 pub extern "C" fn pk_version() -> u32
-    ensures { result ≡ 131072 }
+    ensures { result ≡ 65536 }
 {
     VERSION
 }
