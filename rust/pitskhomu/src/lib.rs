@@ -172,6 +172,6 @@ mod tests {
             assert_eq!(runs_with(0x2_0005, library), major == 2 && minor >= 5, "{library:#x}");
         }
         assert!(runs_with(0xffff_ffff, 0xffff_ffff) && !runs_with(0xffff_fffe, 0x1_ffff));
-        assert_eq!(is_compatible(), version() >> 16 == 2 && version() & 0xffff >= VERSION & 0xffff);
+        assert_eq!(is_compatible(), version() >> 16 == 1 && version() & 0xffff >= VERSION & 0xffff);
     }
 }

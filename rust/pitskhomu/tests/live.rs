@@ -98,6 +98,10 @@ fn no_notification_is_lost() {
                 let offered = driver.offered;
                 assert_eq!((queue.next_avail(), queue.next_used()), (offered, offered));
                 assert!(driver.kicks > 0 && driver.used().is_none());
+                // The driver notifies the device that continues the queue.
+                let event = memory.half(USED + 4 + 8 * u64::from(SIZE)).load(Ordering::SeqCst);
+                let flags = memory.half(USED).load(Ordering::SeqCst);
+                assert_eq!((flags, has_event_index && event != offered), (0, false));
             }
         }
     }

@@ -154,7 +154,7 @@ fn kinds_of_files() {
 
 #[test]
 fn the_archive_is_of_this_header() {
-    assert_eq!((version(), VERSION >> 16, VERSION & 0xffff), (VERSION, 2, 0));
+    assert_eq!((version(), VERSION >> 16, VERSION & 0xffff), (VERSION, 1, 0));
     assert_eq!((Device::MAX_REGIONS, Device::MAX_QUEUES, Device::MIN_LIMIT), (512, 64, 0x101000));
     assert_eq!((Node::ROOT, Attributes::SUBMOUNT, Attributes::DAX), (Node(1), 1, 2));
 }
