@@ -314,3 +314,28 @@ impl Server<State> for Hand<'_> {
         state.is_ending && (state.is_reset || state.is_quiet())
     }
 }
+
+#[cfg(test)]
+mod tests {
+    use super::super::events::new_event;
+    use super::*;
+    use std::io::Read as _;
+    use std::thread;
+    use std::time::Duration;
+
+    /// A thread that hears the signal finds the answer. While the list is locked, none is added.
+    #[test]
+    fn an_answer_is_listed_before_its_signal() {
+        let event = new_event().unwrap();
+        let mut wake = event.try_clone().unwrap();
+        let answered = Arc::new(Answered::new(event));
+        let (list, other) = (answered.numbers.lock().unwrap(), answered.clone());
+        let adds = thread::spawn(move || other.add(7));
+        thread::sleep(Duration::from_millis(100));
+        assert!(wake.read(&mut [0; 8]).is_err(), "a thread finds no answer, and sleeps");
+        drop(list);
+        adds.join().unwrap();
+        assert!(wake.read(&mut [0; 8]).is_ok());
+        assert_eq!((answered.next(), answered.is_empty()), (Some(7), true));
+    }
+}

@@ -504,7 +504,7 @@ fn who_stops_does_not_wait_for_an_iommu() {
 }
 
 /// Waits until something holds of the loop.
-fn until(looping: &Loop<Ring>, what: impl Fn(&Locked<Ring>) -> bool) {
+fn until<Q: Queued>(looping: &Loop<Q>, what: impl Fn(&Locked<Q>) -> bool) {
     let begun = Instant::now();
     while !what(&looping.lock()) {
         assert!(begun.elapsed() < SOON);

@@ -1,5 +1,9 @@
 //! Events that are set, replaced and removed, and that end; and a try again without one.
 use super::*;
+use crate::live::Builder;
+use crate::memory::GuestMemory;
+use crate::operation::Request;
+use crate::slice::GuestSlice;
 
 /// An event that was replaced or removed wakes nobody. (A wait ends early only by an event.)
 #[test]
@@ -74,4 +78,32 @@ fn what_failed_is_tried_again_without_an_event() {
     let mut server = Fake { refusals, ..Fake::default() };
     thread::spawn(move || threads.run(&mut server)); // it ends with the process
     until(&looping, |state| state.queue.next_used() == 1);
+}
+
+/// Memory without a byte: the queue is refused, and its thread sleeps.
+struct Nothing;
+
+impl GuestMemory for Nothing {
+    fn get_slice(&self, _: usize, _: usize) -> Option<GuestSlice<'_>> {
+        None
+    }
+}
+
+/// A thread that a stop wakes finds that the queue ends: while that can't be set, none is woken.
+#[test]
+fn a_stop_is_set_before_its_wake() {
+    let layout = QueueLayout { size: 64, descriptors: 0, available: 0x1000, used: 0x2000 };
+    let (queue, kick, call) =
+        (Queue::new(layout, 0).unwrap(), new_event().unwrap(), new_event().unwrap());
+    let serving = Builder::new(Arc::default(), Arc::new(Nothing), &[])
+        .start_by_values(queue, kick, call, Arc::new(|_: Request<'_>| ()))
+        .unwrap();
+    let shared = serving.shared.clone();
+    until(&shared.threads, |state| state.turns.sleeping() == 1);
+    let state = shared.threads.lock();
+    let stops = thread::spawn(move || serving.stop());
+    thread::sleep(MOMENT / 2);
+    assert!(!has_woken(&shared.threads), "a thread finds no end, and sleeps");
+    drop(state);
+    assert_eq!(stops.join().unwrap().in_flight(), 0);
 }
