@@ -107,3 +107,16 @@ fn a_stop_is_set_before_its_wake() {
     drop(state);
     assert_eq!(stops.join().unwrap().in_flight(), 0);
 }
+
+/// The driver's notification was taken while no chain was popped. A close has the chain looked for.
+#[test]
+fn a_close_has_the_chains_looked_for() {
+    let looping = Arc::new(ring(0, 0));
+    let threads = looping.clone();
+    thread::spawn(move || threads.run(&mut Fake::default())); // it ends with the process
+    until(&looping, |state| state.turns.sleeping() == 1);
+    let mut state = looping.settle(looping.lock(), SOON);
+    state.available = 1;
+    drop(looping.close(state, || false));
+    until(&looping, |state| state.queue.next_used() == 1);
+}
