@@ -484,6 +484,7 @@ static void do_return(struct bench *b, struct pk_queue *queue) {
     begin_buffer(len);
     uint32_t status = named(pk_push(&b->chain, queue, buffer, len, &stores));
     check_buffer(len);
+    if (status == PK_NOT_MAPPED) before.pushing = 1; /* the push is under way then */
     check_same(status, &before, queue);
     if (status == PK_DONE) {
         check_stores(b, queue, &stores);
