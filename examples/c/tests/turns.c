@@ -1,7 +1,7 @@
 /* The machine of pitskhomu_turns.h in every order of the loads, stores and signals of a few threads
  * and a driver: `turns` explores all worlds that result, and finds none in which a turn is lost.
  * The world is that of crates/fs_turns (specs/Worlds), written by hand: so it also shows that the
- * theorem isn't empty. Eleven wrong machines, each with one order changed, each lose a turn. */
+ * theorem isn't empty. Twelve wrong machines, each with one order changed, each lose a turn. */
 #include "pitskhomu_turns.h"
 #include <stdbool.h>
 #include <stdio.h>
@@ -12,28 +12,29 @@ enum { START = 65534, MOST_WORLDS = 1 << 19, TABLE = 1 << 21 };
 enum wrong {
     RIGHT, WAKES_NOBODY, ANY_POSITION, NEVER_HANDS_ON, LOOKS_NOT_AGAIN, STAYS_CALLED,
     SLEEPS_AT_ONCE, SLEEPS_AFTER_ITS_WISH, LEAVES_ANSWERS, FORGETS_ANSWERS, ENDS_ALONE,
-    FORGETS_INTERRUPTS, WRONG_MACHINES
+    FORGETS_INTERRUPTS, KEEPS_ITS_WISH, WRONG_MACHINES
 };
 static const char *const names[] = {
     "the machine", "wakes nobody", "a wish for any position", "never hands on", "looks not again",
     "stays called", "sleeps at once", "sleeps after its wish", "leaves answers",
-    "forgets answers", "ends alone", "forgets interrupts"};
+    "forgets answers", "ends alone", "forgets interrupts", "keeps its wish over a reset"};
 
 /* How much may happen. Each list of bounds has few worlds. */
 struct bounds {
-    uint8_t threads, max_in_flight, chains, answers, pauses, notifies, drops, ends;
+    uint8_t threads, max_in_flight, chains, answers, pauses, notifies, drops, ends, resets;
 };
 static const struct bounds all_bounds[] = {
-    {2, 2, 3, 0, 0, 0, 0, 0}, {3, 2, 2, 0, 0, 0, 0, 0}, {3, 1, 2, 0, 0, 0, 0, 0},
-    {2, 2, 2, 1, 0, 0, 0, 0}, {2, 2, 1, 2, 0, 0, 0, 0}, {2, 2, 2, 0, 1, 0, 0, 0},
-    {2, 2, 2, 0, 0, 1, 0, 0}, {2, 2, 2, 0, 0, 0, 1, 0}, {2, 2, 2, 0, 0, 0, 0, 1}};
+    {2, 2, 3, 0, 0, 0, 0, 0, 0}, {3, 2, 2, 0, 0, 0, 0, 0, 0}, {3, 1, 2, 0, 0, 0, 0, 0, 0},
+    {2, 2, 2, 1, 0, 0, 0, 0, 0}, {2, 2, 1, 2, 0, 0, 0, 0, 0}, {2, 2, 2, 0, 1, 0, 0, 0, 0},
+    {2, 2, 2, 0, 0, 1, 0, 0, 0}, {2, 2, 2, 0, 0, 0, 1, 0, 0}, {2, 2, 2, 0, 0, 0, 0, 1, 0},
+    {2, 2, 2, 0, 0, 0, 0, 0, 1}};
 
 struct world {
     uint16_t index, event, published, position, known, wish;
     uint8_t unchecked, out, sleepers, woken, coming, busy, signalers, answered, interrupters;
-    uint8_t given, came, pauses, notifies, drops, ends; /* so much has happened */
+    uint8_t given, came, pauses, notifies, drops, ends, resets; /* so much has happened */
     bool muted, pending, owes, hidden, stored, undelivered, paused;
-    uint8_t zeros[6]; /* no byte is unknown */
+    uint8_t zeros[5]; /* no byte is unknown */
     struct pk_turns turns;
 };
 _Static_assert(sizeof(struct world) == 56, "the world has other bytes");
@@ -227,6 +228,21 @@ static void enters(struct world now) {
     }
 }
 
+/* A thread with the lock has the queue begin again, without a chain, and signals. In memory
+ * notifications are as they were at the start. */
+static void resets(struct world now) {
+    struct world next = now;
+    if (now.turns.phase || now.resets == all->most.resets) return;
+    next.resets++;
+    next.index = next.published = next.position = next.known = START;
+    next.event = START - 1, next.wish = 0;
+    next.unchecked = next.out = next.answered = 0;
+    next.muted = next.pending = true, next.owes = next.hidden = next.stored = false;
+    if (!pk_turns_reset(&next.turns, all->by_event)) die("a reset is refused", all->at);
+    if (is(KEEPS_ITS_WISH)) next.turns.notifications = now.turns.notifications;
+    adds(&next, "begins again");
+}
+
 /* ------------------------------------------------------------- the driver, and signals */
 
 /* vring_need_event of linux/virtio_ring.h, or the flag. */
@@ -340,6 +356,7 @@ static bool explores(const struct bounds *most) {
         if (is(RIGHT)) refuses_others(&world.turns, (uint8_t)(all->at % 9));
         drives(world);
         happens(world);
+        resets(world);
         if (world.turns.phase == 0) enters(world);
         for (int comes = 0; comes <= (world.coming > 0); comes++) reports(world, comes);
     }
