@@ -162,7 +162,8 @@ fn a_long_read_is_one_system_call() {
             let from = offset as usize;
             let end = bytes.len().min(from + size as usize);
             assert!(data == bytes[from..end], "{way:?} {offset} {size}");
-            let most = if way == Way::Owned { calls } else { 1 }; // in place
+            // In place it is one call. valgrind reads for itself, at most twice a call.
+            let most = if way == Way::Owned { 3 * calls } else { 3 };
             let counted = counting.1.take();
             assert!(counted.iter().all(|&count| count <= most), "{way:?} {size}: {counted:?}");
         }

@@ -1,51 +1,41 @@
 //! A thread that looks for chains before it sleeps. In these tests no event wakes one.
 use super::*;
 
-/// A loop with a thread that looks for chains for so long, after one that came soon. The thread has
-/// no call yet.
-fn polled(most: Duration) -> Arc<Loop<Ring>> {
-    let looping = Arc::new(ring(1, 0));
+/// A loop with a chain, whose thread looks for others for so long: the last one came soon.
+fn polled(most: Duration) -> Loop<Ring> {
+    let (looping, begun) = (ring(1, 0), Instant::now());
     looping.poll_at_most(most);
-    // a wait that was a half of the longest
     let mut state = looping.lock();
-    let begun = Instant::now();
     assert!(state.polling.begin(|| begun).is_none());
     state.polling.end(|| begun + most / 2);
     drop(state);
-    let threads = looping.clone();
-    thread::spawn(move || threads.run(&mut Fake::default())); // it ends with the process
     looping
 }
 
-/// A chain is popped without an event, while the thread looks. Then it sleeps.
+/// A chain is popped without an event, while the thread looks.
 #[test]
 fn a_chain_is_found_without_an_event() {
-    for round in 0..100 {
-        let looping = polled(SOON);
-        until(&looping, |state| state.queue.next_used() == 1);
-        // On a processor that others take, it looks no more.
-        while !looping.is_polled() && sleeping(&looping) == 0 {
-            thread::yield_now();
-        }
-        looping.lock().available = 2;
-        let begun = Instant::now();
-        while looping.lock().queue.next_used() == 1 && sleeping(&looping) == 0 {
-            assert!(begun.elapsed() < SOON, "it neither looks nor sleeps");
-            thread::yield_now();
-        }
-        if looping.lock().queue.next_used() == 2 {
-            assert!(!has_woken(&looping));
-            return;
-        }
-        assert!(round < 99, "no look finds a chain");
-    }
+    let (looping, mut server) = (polled(SOON), Fake::default());
+    let mut thread = Thread::new(&looping, &mut server);
+    assert_eq!(thread.take_turn(looping.lock(), Came::Back), Action::Answer);
+    let (state, came) = thread.answer();
+    assert_eq!(thread.take_turn(state, came), Action::StepAside);
+    assert!(looping.is_polled());
+    looping.lock().available = 2;
+    let state = thread.step_aside();
+    assert!(!looping.is_polled() && !has_woken(&looping));
+    assert_eq!(thread.take_turn(state, Came::Back), Action::Answer);
+    drop(thread);
+    assert_eq!((server.told, server.answers), (vec![false], 1));
 }
 
 /// A stop ends the look at once, and so does a queue that isn't live.
 #[test]
 fn a_stop_ends_a_look() {
     for is_refused in [false, true] {
-        let looping = polled(3 * SOON);
+        let looping = Arc::new(polled(3 * SOON));
+        let threads = looping.clone();
+        thread::spawn(move || threads.run(&mut Fake::default())); // it ends with the process
         until(&looping, |state| state.queue.next_used() == 1);
         let begun = Instant::now();
         let mut state = looping.lock();
