@@ -22,7 +22,7 @@ for kind, path in enumerate(sys.argv[1:]):
         rows.setdefault(what, ([], []))[kind].append(float(number))
 for what, both in rows.items():
     ratio = " " * 6
-    if all(both) and any(both[1]):
+    if all(both) and statistics.median(both[1]):
         ratio = f"{statistics.median(both[0]) / statistics.median(both[1]):6.2f}"
     cells = [f"{min(found):11.1f} {statistics.median(found):11.1f}" if found else " " * 23
         for found in both]
