@@ -297,7 +297,7 @@ impl Ring {
         let mut state = self.close(state, memory, "GET_VRING_BASE is answered");
         if let Err(status) = want_kicks(&mut state, server, memory) {
             warn!(
-                "queue {}: it ends, and the driver may not kick who goes on with it: {status}",
+                "queue {}: it stops, but the driver may not notify its next device: {status}",
                 self.index
             );
         }

@@ -76,7 +76,7 @@ impl Ring {
         let layout = state.queue.layout();
         let over = state.over.take();
         if state.queue.in_flight() > 0 && over.is_some_and(|over| !over.agrees(memory, &layout)) {
-            warn!("queue {}: its memory is another, so replies are dropped", self.index);
+            warn!("queue {}: its memory was replaced, so replies are dropped", self.index);
             self.drop_chains(state, memory);
             state.refuse();
         }

@@ -44,7 +44,7 @@ impl<S: Server> live::Server<State> for Thread<'_, S> {
         let table = self.table.as_ref().ok_or(Status::WrongOrder)?;
         let taken = self.server.take(&mut state.queue, table).inspect_err(|status| {
             if status.is_out_of_memory() {
-                warn!("queue {}: memory is wanting, and a chain waits", self.ring.index);
+                warn!("queue {}: out of memory, and a request waits", self.ring.index);
             }
         })?;
         state.numbers.next_avail = state.queue.next_avail();
@@ -73,7 +73,7 @@ impl<S: Server> live::Server<State> for Thread<'_, S> {
                 Ok(false) | Err(Status::OtherQueue) => {}
                 Err(status) => {
                     error!(
-                        "queue {} is refused, since a chain can't go back: {status}",
+                        "queue {} is refused, since a reply can't be returned: {status}",
                         self.ring.index
                     );
                     state.refuse();
@@ -117,7 +117,7 @@ impl<S: Server> live::Server<State> for Thread<'_, S> {
     }
 
     fn loses_kick(&mut self) {
-        warn!("queue {}: kicks aren't heard any more", self.ring.index);
+        warn!("queue {}: no notification of the driver arrives any more", self.ring.index);
     }
 
     fn rests(&mut self, state: &mut State) -> bool {
