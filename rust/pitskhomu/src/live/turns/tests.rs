@@ -85,10 +85,6 @@ fn serve_all<Q: Queued, S: Server<Q>>(looping: &Loop<Q>, server: &mut S) -> Rest
     serve(looping, server, Came::Woken)
 }
 
-fn sleeping<Q: Queued>(looping: &Loop<Q>) -> u64 {
-    looping.lock().turns.sleeping()
-}
-
 /// Whether the loop has woken a thread since the last look at it.
 fn has_woken<Q: Queued>(looping: &Loop<Q>) -> bool {
     looping.events.waker().unwrap().read(&mut [0; 8]).is_ok()
