@@ -1,10 +1,10 @@
 /* The barriers between a side's store and its load (VIRTIO 1.2, 2.7.7, 2.7.10, 2.7.13):
- *     fences SECONDS
+ *     fences SECONDS         for each of four kinds
  * Both sides store and load at the same moment, again and again. If the device pushes a chain while
  * the driver enables notifications, one of them sees the other's store. The same holds if the
  * device enables notifications while the driver offers a chain. Without a barrier of
- * pitskhomu_ring.h neither does: found in 27 of 32 runs of 5 seconds, on processors of x86 that
- * other programs used, too. */
+ * pitskhomu_ring.h neither does: found in 27 of 32 runs of little more than a second for each kind,
+ * on processors of x86 that other programs used, too. */
 #include "../access.h"
 #include "chance.h"
 #include <pitskhomu_ring.h>
@@ -154,7 +154,7 @@ int main(int argc, char **argv) {
         store(AVAIL + 2, 0), store(USED + 2, 0);
         expect("the queue", pk_queue_begin(&queue, 0), PK_DONE);
         pk_ring_find(&ring, &queue, &region, 1);
-        for (uint64_t begun = now(); now() - begun < milliseconds / 4; rounds++)
+        for (uint64_t begun = now(); now() - begun < milliseconds; rounds++)
             (kind & 2 ? arm_round : push_round)();
     }
     over = true, meet(0);
