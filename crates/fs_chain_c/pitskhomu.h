@@ -37,8 +37,8 @@
  *
  * OBJECTS. `struct pk_device` and `struct pk_queue` hold plain numbers and may be copied. `struct
  * pk_chain`, a handle for one chain at a time, and `struct pk_iotlb` own memory: zero each before
- * its first use, never copy it, and free it. The library keeps no pointer that you pass, and has
- * none for you but pk_build: names and values are offsets into the request (`struct pk_span`).
+ * its first use, never copy it, and free it. The library keeps no pointer that you pass. It returns
+ * names and values as offsets into the request (`struct pk_span`), and pk_build alone a pointer.
  *
  * THREADS. Two calls may run at the same time if each object that both are passed is const in both;
  * else they need an order: a lock, or a join. A chain may move between threads. Threads with chains
