@@ -1,5 +1,6 @@
 //! Threads over a ring that is two numbers, with an IOMMU and calls that end when the test says so.
 mod answers;
+mod begins;
 mod chance;
 mod events;
 mod polling;

@@ -1,0 +1,77 @@
+//! A queue that begins in a pop, and a worker that isn't kept while a thread waits for a moment.
+use super::*;
+
+/// Has one chain, which comes while notifications are enabled. By its first pop the queue begins
+/// with an event index.
+#[derive(Default)]
+struct Begins {
+    pops: u32,
+    /// The positions for which notifications were enabled.
+    told: Vec<u16>,
+    rests: u32,
+    has_failed: bool,
+}
+
+impl Server<Ring> for Begins {
+    fn pop(&mut self, ring: &mut Ring) -> Result<Popped, Status> {
+        if self.has_failed {
+            return Err(Status::OutOfMemory);
+        }
+        self.pops += 1;
+        if self.pops != 2 {
+            ring.queue = core::mem::take(&mut ring.queue).with_event_index(true);
+            return Ok(Popped::Idle);
+        }
+        ring.queue.numbers_mut().next_avail += 1;
+        Ok(Popped::Chain)
+    }
+
+    fn answer(&mut self) -> bool {
+        true
+    }
+
+    fn push(&mut self, _: &mut Ring) -> bool {
+        false
+    }
+
+    fn interrupt(&mut self) {}
+
+    fn set_notification(&mut self, ring: &mut Ring, enabled: bool) -> Result<bool, Status> {
+        assert!(enabled, "with an event index nothing is disabled");
+        self.told.push(ring.queue.next_avail());
+        Ok(true)
+    }
+
+    fn available_index(&mut self, ring: &Ring) -> Option<u16> {
+        Some(ring.queue.next_avail())
+    }
+
+    fn refuse(&mut self, _: &mut Ring, _: Status) {}
+
+    fn rests(&mut self, _: &mut Ring) -> bool {
+        self.rests += 1;
+        false
+    }
+}
+
+/// While the thread answers, others sleep: the driver notifies for the next position.
+#[test]
+fn a_queue_may_begin_in_a_pop() {
+    let (looping, mut server) = (ring(1, 2), Begins::default());
+    let mut thread = Thread::new(&looping, &mut server);
+    assert_eq!(thread.take_turn(looping.lock(), Came::Woken), Action::Answer);
+    drop(thread);
+    assert_eq!(server.told, [0, 1]);
+}
+
+/// A thread that waits for a moment leaves its worker to others, as one that sleeps does.
+#[test]
+fn a_thread_that_waits_rests() {
+    let (looping, mut server) = (ring(1, 0), Begins { has_failed: true, ..Begins::default() });
+    let mut thread = Thread::new(&looping, &mut server);
+    assert_eq!(thread.take_turn(looping.lock(), Came::Back), Action::StepAside);
+    let begun = Instant::now();
+    drop(thread.step_aside());
+    drop(thread);
+    assert!(begun.elapsed() >= AGAIN / 2 && server.rests == 1);
+}
