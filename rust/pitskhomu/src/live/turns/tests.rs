@@ -109,6 +109,7 @@ struct Fake {
     /// It ends instead of sleeping.
     ends: bool,
     pops: u32,
+    looks: u32,
     asks: u32,
     later: u32,
     lost_kicks: u32,
@@ -176,6 +177,7 @@ impl Server<Ring> for Fake {
     }
 
     fn available_index(&mut self, ring: &Ring) -> Option<u16> {
+        self.looks += 1;
         Some(ring.available)
     }
 
@@ -445,8 +447,7 @@ fn chains_before_the_end_are_waited_for() {
     assert!(before.elapsed() < SOON);
     assert_eq!((state.queue.in_flight(), state.queue.next_used()), (0, 3));
     let (has_begun, _end) = ending.join().unwrap();
-    drop(looping.close(state, || false));
-    looping.look();
+    drop(looping.close(state, || false)); // a thread looks then
     has_begun.recv_timeout(SOON).unwrap();
 }
 

@@ -32,21 +32,21 @@ fn a_chain_is_found_without_an_event() {
 /// A stop ends the look at once, and so does a queue that isn't live.
 #[test]
 fn a_stop_ends_a_look() {
-    for is_refused in [false, true] {
-        let looping = Arc::new(polled(3 * SOON));
-        let threads = looping.clone();
-        thread::spawn(move || threads.run(&mut Fake::default())); // it ends with the process
-        until(&looping, |state| state.queue.next_used() == 1);
-        let begun = Instant::now();
-        let mut state = looping.lock();
-        if is_refused {
-            state.refused = Some(Status::OtherTable);
-        } else {
-            state.until = Some(1);
+    for round in 0..20 {
+        let (looping, mut server) = (polled(3 * SOON), Fake::default());
+        let mut thread = Thread::new(&looping, &mut server);
+        assert_eq!(thread.take_turn(looping.lock(), Came::Back), Action::Answer);
+        let (state, came) = thread.answer();
+        assert_eq!(thread.take_turn(state, came), Action::StepAside);
+        match round % 3 {
+            0 => looping.lock().refused = Some(Status::OtherTable),
+            1 => looping.lock().until = Some(1),
+            _ => looping.lock().waiters = 1,
         }
-        drop(state);
-        until(&looping, |state| state.turns.sleeping() == 1);
-        assert!(begun.elapsed() < SOON && !looping.is_polled());
+        drop(thread.step_aside());
+        drop(thread);
+        assert!(!looping.is_polled());
+        assert_eq!(server.looks, 1, "it looks on");
     }
 }
 
