@@ -338,7 +338,7 @@ static void refuses_others(const struct pk_turns *now, uint8_t phase) {
     }
 }
 
-/* Explores what comes of a queue with no chain, to which all threads come. Returns whether a turn
+/* Explores a queue with no chain, to which all threads come. Returns whether a turn
  * is lost. */
 static bool explores(const struct bounds *most) {
     struct world world = {.index = START, .published = START, .position = START, .known = START,
