@@ -261,11 +261,28 @@ pub fn write_at_the_end(bytes: &[u8]) {
 #[cfg(test)]
 mod tests {
     use super::*;
-    use crate::notifier::{tests::full_pipe, Notifier};
+    use crate::notifier::Notifier;
     use crate::options::Seccomp;
     use crate::system_calls;
+    use std::io::Write;
     use std::iter;
+    use std::os::fd::{AsRawFd, FromRawFd};
     use std::sync::mpsc::{channel, Sender};
+
+    /// A pipe that is full, and that nobody reads: its reader, and its writer.
+    pub(super) fn full_pipe() -> (File, File) {
+        let mut ends = [0; 2];
+        // SAFETY: the two numbers are borrowed mutably.
+        assert_eq!(unsafe { libc::pipe2(ends.as_mut_ptr(), libc::O_CLOEXEC) }, 0);
+        // SAFETY: the descriptors are new, and nothing else owns them.
+        let (reader, mut writer) =
+            unsafe { (File::from_raw_fd(ends[0]), File::from_raw_fd(ends[1])) };
+        // SAFETY: the descriptor is open, and no memory is touched.
+        let size = unsafe { libc::fcntl(writer.as_raw_fd(), libc::F_GETPIPE_SZ) };
+        let size = usize::try_from(size).expect("a size");
+        writer.write_all(&vec![0x5a; size]).expect("a pipe that is filled");
+        (reader, writer)
+    }
 
     /// A writer that waits for a permit at each line.
     struct Slow {
@@ -287,7 +304,7 @@ mod tests {
     /// A system call that the filter refuses ends the process. Only this thread gets the filter.
     #[test]
     fn the_filter_allows_a_look_for_room() {
-        let (_reader, writer) = full_pipe(0);
+        let (_reader, writer) = full_pipe();
         let looked = thread::spawn(move || {
             system_calls::limit(Seccomp::Kill, false).expect("a filter");
             let notifier = Notifier::new(writer).expect("a notifier");

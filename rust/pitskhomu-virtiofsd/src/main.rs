@@ -3,21 +3,13 @@
 mod adapter;
 mod capabilities;
 mod fd_table;
-mod front_end;
 mod guest_cache;
-mod in_flight;
-mod iommu;
 mod logger;
-mod marks;
-mod memory;
-mod migration;
-mod notifier;
 mod numbers;
 mod open_flags;
 mod options;
 mod paths;
 mod replace;
-mod ring;
 mod serve;
 mod signals;
 mod socket;
@@ -28,6 +20,7 @@ mod system_calls;
 use clap::Parser;
 use logger::Logger;
 use options::Options;
+use pitskhomu_vhost_user::{front_end, iommu, memory, notifier, ring};
 use std::process::ExitCode;
 
 /// The output of --print-capabilities (vhost-user.json of QEMU's interop documents).

@@ -10,7 +10,7 @@ use crate::open_flags::OpenFlags;
 use crate::options::Options;
 use crate::paths;
 use crate::replace::{self, Control, Old, Record, Turn, Turns};
-use crate::serve::{Core, Parts, QueueWorker, ServedFs};
+use crate::serve::{Core, OfVirtiofsd, QueueWorker, ServedFs, Shared};
 use crate::signals;
 use crate::socket::Socket;
 use crate::state;
@@ -282,10 +282,10 @@ impl Serving {
         }
     }
 
-    fn serve<F: ServedFs>(self, fs: F, logger: &Logger) -> Result<(), Failure> {
-        let Serving { request_queues, threads, flags, cache, always_agreed, .. } = self;
-        let parts = Parts { fs, request_queues, threads, flags, cache, always_agreed };
-        let core = Arc::new(Core::new(parts)?);
+    fn serve<F: OfVirtiofsd>(self, fs: F, logger: &Logger) -> Result<(), Failure> {
+        let Serving { flags, cache, always_agreed, scratch, .. } = self;
+        let shared = Shared { fs, flags, cache, always_agreed, scratch };
+        let core = Arc::new(Core::new(shared, self.request_queues, self.threads)?);
         core.rings.iter().for_each(|ring| ring.poll_at_most(self.polls));
         logger::lead_errors()?;
         capabilities::give_up(&self.capabilities)?;
@@ -294,7 +294,7 @@ impl Serving {
         core.start().map_err(|e| no_thread("the session's thread", &e))?;
         self.asked.start(core.clone()).map_err(|e| no_thread("the thread for the numbers", &e))?;
         start_threads(&core)?;
-        let front_end = FrontEnd::new(core.clone(), self.tag, self.scratch)?;
+        let front_end = FrontEnd::new(core.clone(), self.tag)?;
         let front_end = Arc::new(Mutex::new(front_end));
         let (handler, old) = if self.takes_over {
             let handler = connection(self.listener, front_end.clone());

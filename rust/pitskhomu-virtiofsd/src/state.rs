@@ -15,16 +15,14 @@
 //! agrees on are taken as agreed. virtiofsd's own part is accepted only if its numbers may be
 //! (`inner`).
 mod inner;
-pub mod pipe;
 
 use crate::open_flags::OpenFlags;
-use crate::serve::{Core, ServedFs};
-use pipe::Pipe;
 use pitskhomu as p;
+pub use pitskhomu_vhost_user::pipe::scratch;
+use pitskhomu_vhost_user::pipe::Pipe;
 use std::fs::File;
 use std::hash::Hasher;
 use std::io::{self, Read, Seek, Write};
-use std::os::fd::FromRawFd;
 use virtiofsd::filesystem::SerializableFileSystem;
 
 /// No state of virtiofsd's ends with these bytes: its last are those of a string of UTF-8, or of
@@ -34,18 +32,6 @@ const MARK: &[u8; 8] = b"pitskhm\xff";
 const GOES_ON: u8 = 0x80;
 /// The greatest length of a state in bytes. A longer one could fill the host's memory.
 const STATE_MAX: u64 = 1 << 30;
-
-/// A file in memory, for virtiofsd's reader, which needs a file that ends with its bytes. Make it
-/// before seccomp forbids that.
-pub fn scratch() -> io::Result<File> {
-    // SAFETY: the name is a C string.
-    let fd = unsafe { libc::memfd_create(c"pitskhomu-state".as_ptr(), libc::MFD_CLOEXEC) };
-    if fd < 0 {
-        return Err(io::Error::last_os_error());
-    }
-    // SAFETY: the descriptor is new, and nothing else owns it.
-    Ok(unsafe { File::from_raw_fd(fd) })
-}
 
 fn invalid(why: &str) -> io::Error {
     io::Error::new(io::ErrorKind::InvalidData, why)
@@ -59,41 +45,14 @@ fn sum(bytes: &[u8]) -> [u8; 8] {
     hasher.finish().to_le_bytes()
 }
 
-/// Refuses to save a state while the host holds a call of the guest's: its reply would be lost.
-/// Waits a while for those that may end.
-pub fn may_be_saved<F: ServedFs>(core: &Core<F>) -> io::Result<()> {
-    core.calls_left().map_or(Ok(()), |held| {
-        Err(io::Error::other(format!(
-            "the guest can't move now, and goes on here, since the host holds a call of its: {held}"
-        )))
-    })
-}
-
-/// Refuses to load a state while the host holds a call of the guest's: it may change that state.
-fn may_be_loaded<F: ServedFs>(core: &Core<F>) -> io::Result<()> {
-    core.calls_left().map_or(Ok(()), |held| {
-        Err(io::Error::other(format!(
-            "no state can be loaded now, since the host holds a call: {held}"
-        )))
-    })
-}
-
-/// Sends the state of a core whose rings are stopped.
-pub fn save<F: ServedFs>(core: &Core<F>, scratch: &File, pipe: File) -> io::Result<()> {
-    // A ring whose numbers were never set has none to save.
-    let queues = core.rings.iter().filter_map(|ring| ring.lock().queue_if_begun());
-    let queues = queues.collect::<Result<Vec<_>, _>>()?;
-    send(&core.fs, &core.device, &queues, scratch, pipe)
-}
-
-fn send(
+/// Sends the state of a device whose rings are stopped.
+pub fn send(
     fs: &impl SerializableFileSystem,
     device: &p::Device,
     queues: &[p::Queue],
     scratch: &File,
-    pipe: File,
+    mut pipe: Pipe,
 ) -> io::Result<()> {
-    let mut pipe = Pipe::out(pipe)?;
     let state = over(scratch, |file| fs.serialize(file), &Scratch::Read)?;
     let (version, rest) = state
         .split_first()
@@ -107,13 +66,6 @@ fn send(
     pipe.write_all(&sent)?;
     pipe.write_all(&sum(&sent))?;
     pipe.write_all(MARK)
-}
-
-/// Receives a state from this daemon on another host, or from virtiofsd.
-pub fn load<F: ServedFs>(core: &Core<F>, scratch: &File, pipe: File) -> io::Result<()> {
-    may_be_loaded(core)?;
-    let settings = Settings { always_agreed: core.always_agreed, flags: core.flags };
-    receive(&core.fs, &core.device, settings, scratch, pipe)
 }
 
 /// How many nodes of a state of this daemon's no other daemon can find.
@@ -187,22 +139,23 @@ fn over(
 
 /// What the command line says of a state that comes in.
 #[derive(Clone, Copy)]
-struct Settings {
+pub struct Settings {
     /// What each session agrees on.
-    always_agreed: p::Options,
+    pub always_agreed: p::Options,
     /// Which of the guest's open flags apply on the host.
-    flags: OpenFlags,
+    pub flags: OpenFlags,
 }
 
-fn receive(
+/// Receives a state from this daemon on another host, or from virtiofsd.
+pub fn receive(
     fs: &impl SerializableFileSystem,
     device: &p::Device,
     settings: Settings,
     scratch: &File,
-    pipe: File,
+    pipe: Pipe,
 ) -> io::Result<()> {
     let mut bytes = Vec::new();
-    if Pipe::into(pipe)?.take(STATE_MAX + 1).read_to_end(&mut bytes)? as u64 > STATE_MAX {
+    if pipe.take(STATE_MAX + 1).read_to_end(&mut bytes)? as u64 > STATE_MAX {
         return Err(io::Error::other("the state is longer than any"));
     }
     let (state, record) = split(bytes)?;
@@ -256,6 +209,12 @@ mod tests {
         f.rewind().unwrap();
         f
     }
+    fn from(bytes: &[u8]) -> Pipe {
+        Pipe::into(file(bytes)).unwrap()
+    }
+    fn to(file: &File) -> Pipe {
+        Pipe::out(file.try_clone().unwrap()).unwrap()
+    }
     fn bytes(mut f: &File) -> Vec<u8> {
         let mut v = Vec::new();
         f.rewind().unwrap();
@@ -271,15 +230,15 @@ mod tests {
         let room = scratch().unwrap();
         for queues in [vec![], vec![p::Queue::new(layout, 7).unwrap()]] {
             let pipe = scratch().unwrap();
-            send(&source, &device, &queues, &room, pipe.try_clone().unwrap()).unwrap();
+            send(&source, &device, &queues, &room, to(&pipe)).unwrap();
             let sent = bytes(&pipe);
             assert!(sent.starts_with(&[&[0x81, 0], &EMPTY[1..]].concat()) && sent.ends_with(MARK));
             let target = Fs(Mutex::default());
-            receive(&target, &device, NONE, &room, file(&sent)).unwrap();
+            receive(&target, &device, NONE, &room, from(&sent)).unwrap();
             assert_eq!(*target.0.lock().unwrap(), EMPTY);
             target.0.lock().unwrap().clear();
             let refused = |bytes: &[u8], what: usize| {
-                let received = receive(&target, &device, NONE, &room, file(bytes));
+                let received = receive(&target, &device, NONE, &room, from(bytes));
                 assert!(received.is_err(), "{what}");
             };
             for at in 0..sent.len() {
@@ -301,11 +260,11 @@ mod tests {
         let (target, room, device) =
             (Fs(Mutex::default()), scratch().unwrap(), p::Device::default());
         for always in [p::Options::empty(), p::Options::SETXATTR_EXT | p::Options::SECURITY_CTX] {
-            receive(&target, &device, agreed(always), &room, file(EMPTY)).unwrap();
+            receive(&target, &device, agreed(always), &room, from(EMPTY)).unwrap();
             assert_eq!(*target.0.lock().unwrap(), EMPTY);
             assert_eq!(device.options(), always);
         }
-        assert!(receive(&target, &device, NONE, &room, file(&EMPTY.repeat(2))).is_err());
+        assert!(receive(&target, &device, NONE, &room, from(&EMPTY.repeat(2))).is_err());
     }
 
     /// By `openssl mac -macopt size:8 -macopt hexkey:00000000000000000000000000000000 SIPHASH`.
@@ -330,7 +289,7 @@ mod tests {
         };
         let (source, target, room, pipe) = (fs(), fs(), scratch().unwrap(), scratch().unwrap());
         source.prepare_serialization(std::sync::Arc::default());
-        send(&source, &p::Device::default(), &[], &room, pipe.try_clone().unwrap()).unwrap();
+        send(&source, &p::Device::default(), &[], &room, to(&pipe)).unwrap();
         let sent = bytes(&pipe);
         assert!(sent.len() > MARK.len() + 6 && sent[..2] == [0x81, 0], "{:x?}", &sent[..2]);
         target.deserialize_and_apply(file(&sent)).unwrap();
@@ -345,7 +304,7 @@ mod tests {
         for (len, record) in [(5u32, &b""[..]), (u32::MAX, b"xx"), (3, b"abc"), (32, &[0; 32])] {
             let summed = [&ours[..], record, &len.to_le_bytes()].concat();
             let sent = [&summed[..], &sum(&summed), MARK].concat();
-            let loaded = receive(&target, &device, NONE, &room, file(&sent));
+            let loaded = receive(&target, &device, NONE, &room, from(&sent));
             assert!(loaded.is_err(), "{len}");
         }
     }

@@ -16,7 +16,7 @@ type Created<H> = (v::Entry, Option<H>, fuse::OpenOptions);
 impl<F: v::FileSystem> Adapter<'_, F> {
     /// Makes a call. If the chain was dropped meanwhile, the result goes to `undo`.
     fn call<T>(&self, call: impl FnOnce(&F) -> io::Result<T>, undo: impl FnOnce(T)) -> Answer<T> {
-        match self.ring.call_host(self.doing, || call(self.fs)) {
+        match self.chain.call_host(|| call(self.fs)) {
             Ok(result) => result.done(),
             Err(late) => {
                 let _ = late.map(undo);

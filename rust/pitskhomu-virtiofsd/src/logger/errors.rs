@@ -213,7 +213,7 @@ mod tests {
     #[test]
     fn no_death_waits_for_a_reader() {
         for (death, signal, _) in DEATHS {
-            let (_reader, writer) = crate::notifier::tests::full_pipe(0);
+            let (_reader, writer) = super::super::tests::full_pipe();
             assert_eq!(die_alone(death, writer.into()).0, *signal, "{death}");
         }
     }

@@ -3,8 +3,8 @@
 use super::report::{self, Sources};
 use crate::serve::{Core, ServedFs};
 use crate::socket;
-use crate::state::pipe::Pipe;
 use log::{info, warn};
+use pitskhomu_vhost_user::pipe::Pipe;
 use std::fs::File;
 use std::io::{self, Read, Write};
 use std::os::fd::{AsRawFd, OwnedFd, RawFd};

@@ -1,7 +1,7 @@
-//! A migration, on the daemon's side. virtiofsd's file system prepares its state while the guest
-//! runs, and a thread sends or receives the state while the rings are stopped.
-use crate::serve::{Core, ServedFs};
-use crate::state;
+//! A migration, on the device's side. The file system prepares its state while the guest runs, and
+//! a thread sends or receives the state while the rings are stopped.
+use crate::device::{Core, ServedFs};
+use crate::pipe::Pipe;
 use log::warn;
 use std::fs::File;
 use std::io;
@@ -25,8 +25,7 @@ const A_MOMENT: Duration = Duration::from_millis(10);
 const ENDED: u64 = 0;
 const HUNG_UP: u64 = 1;
 
-/// One thread at a time prepares or transfers a state: they use the same file, and the same part of
-/// the file system.
+/// One thread at a time prepares or transfers a state: they use the same part of the file system.
 type Turn = Mutex<()>;
 
 /// The file system's preparation, on a thread of its own.
@@ -40,7 +39,6 @@ struct Preparation {
 /// A migration to or from another daemon, if one is under way.
 pub struct Migration<F> {
     core: Arc<Core<F>>,
-    scratch: Arc<File>,
     turn: Arc<Turn>,
     preparation: Option<Preparation>,
     /// The transfer's result.
@@ -101,15 +99,33 @@ impl Preparation {
     }
 }
 
+/// Refuses to save a state while the host holds a call of the guest's: its reply would be lost.
+/// Waits a while for those that may end.
+fn may_be_saved<F: ServedFs>(core: &Core<F>) -> io::Result<()> {
+    core.calls_left().map_or(Ok(()), |held| {
+        Err(io::Error::other(format!(
+            "the guest can't move now, and goes on here, since the host holds a call of its: {held}"
+        )))
+    })
+}
+
+/// Refuses to load a state while the host holds a call of the guest's: it may change that state.
+fn may_be_loaded<F: ServedFs>(core: &Core<F>) -> io::Result<()> {
+    core.calls_left().map_or(Ok(()), |held| {
+        Err(io::Error::other(format!(
+            "no state can be loaded now, since the host holds a call: {held}"
+        )))
+    })
+}
+
 /// Sends the state, once it is prepared and no call of the guest's may change it.
 fn save<F: ServedFs>(
     core: &Core<F>,
     preparation: Option<&Preparation>,
     turn: &Turn,
-    scratch: &File,
     pipe: File,
 ) -> io::Result<()> {
-    if let Err(e) = state::may_be_saved(core) {
+    if let Err(e) = may_be_saved(core) {
         if let Some(preparation) = preparation {
             preparation.cancel();
         }
@@ -120,14 +136,17 @@ fn save<F: ServedFs>(
     }
     let _turn = take_turn(turn)?;
     if preparation.is_none() {
-        core.fs.prepare_serialization(Arc::default());
+        core.fs.prepare_state(Arc::default());
     }
-    state::save(core, scratch, pipe)
+    // A ring whose numbers were never set has none to save.
+    let queues = core.rings.iter().filter_map(|ring| ring.lock().queue_if_begun());
+    let queues = queues.collect::<Result<Vec<_>, _>>()?;
+    core.fs.save_state(&core.device, &queues, Pipe::out(pipe)?)
 }
 
 impl<F: ServedFs> Migration<F> {
     /// No migration.
-    pub fn new(core: Arc<Core<F>>, scratch: File) -> io::Result<Migration<F>> {
+    pub fn new(core: Arc<Core<F>>) -> io::Result<Migration<F>> {
         let event = || EventFd::new(libc::EFD_NONBLOCK | libc::EFD_CLOEXEC);
         let (has_ended, prepared) = (event()?, event()?);
         let events = Epoll::new()?;
@@ -135,7 +154,6 @@ impl<F: ServedFs> Migration<F> {
         events.ctl(ControlOperation::Add, has_ended.as_raw_fd(), ended)?;
         Ok(Migration {
             core,
-            scratch: Arc::new(scratch),
             turn: Arc::default(),
             preparation: None,
             transfer: None,
@@ -164,7 +182,7 @@ impl<F: ServedFs> Migration<F> {
         let spawned = spawn(move || {
             let prepared = take_turn(&turn).map(|_turn| {
                 if !is_over.load(Ordering::Relaxed) {
-                    core.fs.prepare_serialization(is_over); // this forgets an earlier preparation
+                    core.fs.prepare_state(is_over); // this forgets an earlier preparation
                 }
             });
             let _ = end.try_send(prepared);
@@ -218,9 +236,9 @@ impl<F: ServedFs> Migration<F> {
 
     /// Sends the state by this pipe, unless the host holds a call of the guest's.
     pub fn save(&mut self, pipe: File) {
-        let (core, scratch, turn) = (self.core.clone(), self.scratch.clone(), self.turn.clone());
+        let (core, turn) = (self.core.clone(), self.turn.clone());
         let preparation = self.preparation.take();
-        self.begin(move || save(&core, preparation.as_ref(), &turn, &scratch, pipe));
+        self.begin(move || save(&core, preparation.as_ref(), &turn, pipe));
     }
 
     /// Receives the state by this pipe.
@@ -228,10 +246,11 @@ impl<F: ServedFs> Migration<F> {
         if self.cancel() {
             warn!("a state comes in, so what was prepared to go out is given up");
         }
-        let (core, scratch, turn) = (self.core.clone(), self.scratch.clone(), self.turn.clone());
+        let (core, turn) = (self.core.clone(), self.turn.clone());
         self.begin(move || {
             let _turn = take_turn(&turn)?;
-            state::load(&core, &scratch, pipe)
+            may_be_loaded(&core)?;
+            core.fs.load_state(&core.device, Pipe::into(pipe)?)
         });
     }
 

@@ -8,11 +8,11 @@ mod handed;
 
 pub use handed::Agreed;
 
+use crate::device::{Core, QueueWorker, ServedFs};
 use crate::marks::Log;
 use crate::memory::Table;
 use crate::migration::Migration;
 use crate::ring::{Patience, Ring, SIZE_MAX};
-use crate::serve::{Core, QueueWorker, ServedFs};
 use log::{debug, error, info};
 use std::fs::File;
 use std::io;
@@ -25,12 +25,14 @@ use virtio_bindings::bindings::virtio_config::{VIRTIO_F_ACCESS_PLATFORM, VIRTIO_
 use virtio_bindings::bindings::virtio_ring::{
     VIRTIO_RING_F_EVENT_IDX, VIRTIO_RING_F_INDIRECT_DESC,
 };
-use virtiofsd::vhost_user::MAX_TAG_LEN;
 
 /// `VIRTIO_F_ACCESS_PLATFORM`: the device accesses memory with the platform's translation. QEMU
 /// passes the bit in `SET_FEATURES` only if the guest has a vIOMMU in front of the device. Then the
 /// addresses of rings and buffers are I/O addresses.
 const ACCESS_PLATFORM: u64 = 1 << VIRTIO_F_ACCESS_PLATFORM;
+
+/// The bytes of a tag (`tag` of struct `virtio_fs_config`).
+pub const TAG_LEN: usize = 36;
 
 /// The memory slots that the front-end may use, as many as with vhost in Linux, and with virtiofsd.
 const MEMORY_SLOTS: u64 = 509;
@@ -61,10 +63,10 @@ fn no_queue() -> Error {
 }
 
 impl<F: ServedFs> FrontEnd<F> {
-    /// `scratch` is the file of `state::scratch`.
-    pub fn new(core: Arc<Core<F>>, tag: Option<String>, scratch: File) -> io::Result<FrontEnd<F>> {
+    /// The state before the front-end's first message.
+    pub fn new(core: Arc<Core<F>>, tag: Option<String>) -> io::Result<FrontEnd<F>> {
         let (migration, worker) =
-            (Migration::new(core.clone(), scratch)?, QueueWorker::new(core.clone(), 0));
+            (Migration::new(core.clone())?, QueueWorker::new(core.clone(), 0));
         Ok(FrontEnd { core, tag, features: 0, protocol: 0, log: None, migration, worker })
     }
 
@@ -103,13 +105,13 @@ impl<F: ServedFs> FrontEnd<F> {
         Ok(())
     }
 
-    fn config(&self) -> [u8; MAX_TAG_LEN + 4] {
-        let mut config = [0; MAX_TAG_LEN + 4];
+    fn config(&self) -> [u8; TAG_LEN + 4] {
+        let mut config = [0; TAG_LEN + 4];
         let tag = self.tag.as_deref().unwrap_or_default().as_bytes();
         config.iter_mut().zip(tag).for_each(|(to, from)| *to = *from);
         #[allow(clippy::cast_possible_truncation, reason = "there are at most 64 rings")]
         let request_queues = self.core.rings.len() as u32 - 1;
-        config[MAX_TAG_LEN..].copy_from_slice(&request_queues.to_le_bytes());
+        config[TAG_LEN..].copy_from_slice(&request_queues.to_le_bytes());
         config
     }
 }

@@ -68,7 +68,7 @@ impl Notifier {
 }
 
 #[cfg(test)]
-pub mod tests {
+pub(crate) mod tests {
     use super::*;
     use std::io::Read;
     use std::os::fd::FromRawFd;
@@ -141,7 +141,7 @@ pub mod tests {
 
     #[test]
     fn a_regular_file_is_always_ready() {
-        let file = crate::state::scratch().expect("a file");
+        let file = crate::pipe::scratch().expect("a file");
         let room = Room::new(file.as_raw_fd()).expect("a regular file");
         assert!(room.is_none());
         assert_eq!(Notifier::new(file).expect("a notifier").notify().ok(), Some(()));

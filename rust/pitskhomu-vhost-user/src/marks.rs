@@ -155,7 +155,7 @@ mod tests {
     use super::*;
 
     fn log(len: u64) -> (File, Arc<Log>) {
-        let file = crate::state::scratch().expect("a file in memory");
+        let file = crate::pipe::scratch().expect("a file in memory");
         file.set_len(len).expect("room");
         (file.try_clone().expect("a descriptor"), Arc::new(Log::new(file, 0, len).expect("a log")))
     }

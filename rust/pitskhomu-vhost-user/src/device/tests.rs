@@ -1,7 +1,10 @@
 //! A session whose end the host holds, or whose state.
 use super::*;
 use crate::migration::Migration;
-use crate::state::scratch;
+use crate::pipe::scratch;
+use pitskhomu::{
+    Answer, Attributes, CStr, Context, Device, Entry, Errno, FileSystem, Handle, Node,
+};
 use std::fs::File;
 use std::io::{Read, Seek, Write};
 use std::os::fd::{AsRawFd, OwnedFd};
@@ -10,21 +13,22 @@ use std::process::Command;
 use std::sync::mpsc::{channel, Receiver, Sender};
 use std::sync::Mutex;
 use std::time::Duration;
-use virtiofsd::filesystem::{DirEntry, DirectoryIterator};
 
 const SOON: Duration = Duration::from_secs(20);
 
-/// A directory without entries.
-struct NoEntries;
+/// Has no file.
+struct Empty;
 
-impl DirectoryIterator for NoEntries {
-    fn next(&mut self) -> Option<DirEntry<'_>> {
-        None
+impl FileSystem for Empty {
+    fn lookup(&self, _: &Context, _: Node, _: &CStr) -> Answer<Entry> {
+        Err(Errno::ENOENT)
+    }
+    fn getattr(&self, _: &Context, _: Node, _: Option<Handle>) -> Answer<(Attributes, Duration)> {
+        Err(Errno::ENOENT)
     }
 }
 
-/// A state of virtiofsd's without a node.
-const EMPTY: [u8; 10] = [1, 0, 2, 0, 0, 0, 0, 0, 0, 0];
+const STATE: [u8; 10] = [1, 0, 2, 0, 0, 0, 0, 0, 0, 0];
 
 /// A file system whose DESTROY, and whose state, begin and end by these.
 struct Holding {
@@ -41,31 +45,31 @@ impl Holding {
     }
 }
 
-impl FileSystem for Holding {
-    type Inode = u64;
-    type Handle = u64;
-    type DirIter = NoEntries;
+impl ServedFs for Holding {
+    type ForChain<'c> = Empty;
+
+    fn for_chain<'c>(&'c self, _chain: Chain<'c>) -> Empty {
+        Empty
+    }
 
     fn destroy(&self) {
         self.hold();
     }
-}
 
-impl SerializableFileSystem for Holding {
-    fn prepare_serialization(&self, _is_over: Arc<AtomicBool>) {
+    fn prepare_state(&self, _is_cancelled: Arc<AtomicBool>) {
         if !self.is_prepared.load(Ordering::SeqCst) {
             self.hold();
         }
     }
 
-    fn serialize(&self, mut file: File) -> io::Result<()> {
-        file.write_all(&EMPTY[..4])?;
+    fn save_state(&self, _: &Device, _queues: &[Queue], mut pipe: Pipe) -> io::Result<()> {
+        pipe.write_all(&STATE[..4])?;
         self.hold();
-        file.write_all(&EMPTY[4..])
+        pipe.write_all(&STATE[4..])
     }
 
-    fn deserialize_and_apply(&self, _file: File) -> io::Result<()> {
-        Ok(())
+    fn load_state(&self, _device: &Device, mut pipe: Pipe) -> io::Result<()> {
+        pipe.read_to_end(&mut Vec::new()).map(|_| ())
     }
 }
 
@@ -74,15 +78,7 @@ fn core() -> (Arc<Core<Holding>>, Receiver<()>, Sender<()>) {
     let ((begins, has_begun), (end, ends)) = (channel(), channel());
     let (begins, ends, is_prepared) = (Mutex::new(begins), Mutex::new(ends), true.into());
     let fs = Holding { begins, ends, is_prepared };
-    let core = Core::new(Parts {
-        fs,
-        request_queues: 1,
-        threads: 1,
-        flags: OpenFlags { allow_direct_io: false, preserve_noatime: false, writeback: false },
-        cache: crate::guest_cache::GuestCache::default(),
-        always_agreed: pitskhomu::Options::empty(),
-    });
-    let core = Arc::new(core.expect("a core"));
+    let core = Arc::new(Core::new(fs, 1, 1).expect("a core"));
     core.start().expect("a thread");
     (core, has_begun, end)
 }
@@ -123,7 +119,7 @@ fn bytes(mut file: &File) -> Vec<u8> {
 #[test]
 fn one_state_is_transferred_at_a_time() {
     let (core, has_begun, end) = core();
-    let mut migration = Migration::new(core, scratch().expect("a file")).expect("events");
+    let mut migration = Migration::new(core).expect("events");
     let pipes = [scratch().expect("a file"), scratch().expect("a file")];
     migration.save(pipes[0].try_clone().expect("a descriptor"));
     has_begun.recv_timeout(SOON).expect("a state that is written");
@@ -136,15 +132,14 @@ fn one_state_is_transferred_at_a_time() {
     end.send(()).expect("who waits");
     migration.finish().expect("a state");
     let states = pipes.each_ref().map(bytes);
-    assert_eq!(states[0], states[1]);
-    assert_eq!(states[0][2..10], EMPTY[1..9]);
+    assert_eq!(states, [STATE, STATE]);
 }
 
 /// The end of a session that is under way may change the state that is saved.
 #[test]
 fn a_save_waits_for_the_end_of_a_session() {
     let (core, has_begun, end) = core();
-    let mut migration = Migration::new(core.clone(), scratch().expect("a file")).expect("events");
+    let mut migration = Migration::new(core.clone()).expect("events");
     core.end_session(Patience::new());
     has_begun.recv_timeout(SOON).expect("an end that begins");
     migration.save(scratch().expect("a file"));
@@ -159,7 +154,7 @@ fn a_save_waits_for_the_end_of_a_session() {
 fn a_save_does_not_wait_for_ever_for_its_preparation() {
     let (core, has_begun, end) = core();
     core.fs.is_prepared.store(false, Ordering::SeqCst);
-    let mut migration = Migration::new(core.clone(), scratch().expect("a file")).expect("events");
+    let mut migration = Migration::new(core.clone()).expect("events");
     migration.prepare();
     has_begun.recv_timeout(SOON).expect("a preparation");
     migration.save(scratch().expect("a file"));
@@ -182,7 +177,7 @@ fn a_save_does_not_wait_for_ever_for_its_preparation() {
 #[test]
 fn nobody_waits_for_a_transfer_when_the_front_end_has_left() {
     let (core, ..) = core();
-    let mut migration = Migration::new(core, scratch().expect("a file")).expect("events");
+    let mut migration = Migration::new(core).expect("events");
     let (ours, theirs) = UnixStream::pair().expect("a socket");
     let (pipe, others) = UnixStream::pair().expect("a pipe");
     migration.watch(ours.as_raw_fd()).expect("a socket");
@@ -200,7 +195,7 @@ fn nobody_waits_for_a_transfer_when_the_front_end_has_left() {
 #[test]
 fn a_state_that_never_comes_is_not_waited_for() {
     let (core, ..) = core();
-    let mut migration = Migration::new(core, scratch().expect("a file")).expect("events");
+    let mut migration = Migration::new(core).expect("events");
     let (pipe, front_ends) = UnixStream::pair().expect("a pipe");
     migration.load(File::from(OwnedFd::from(pipe)));
     let (done, is_done) = channel();
@@ -212,7 +207,7 @@ fn a_state_that_never_comes_is_not_waited_for() {
     assert!(late.contains("wrote nothing"), "{late}");
     drop(front_ends);
     let mut state = scratch().expect("a file");
-    state.write_all(&EMPTY).and_then(|()| state.rewind()).expect("a state");
+    state.write_all(&STATE).and_then(|()| state.rewind()).expect("a state");
     migration.load(state);
     migration.finish().expect("a state");
 }
@@ -221,7 +216,7 @@ fn a_state_that_never_comes_is_not_waited_for() {
 /// doesn't wait for a session whose end the host holds.
 #[test]
 fn no_message_needs_a_thread() {
-    const NAME: &str = "serve::tests::no_message_needs_a_thread";
+    const NAME: &str = "device::tests::no_message_needs_a_thread";
     const ALONE: &str = "PITSKHOMU_WITHOUT_THREADS";
     if std::env::var_os(ALONE).is_none() {
         let mut again = Command::new(std::env::current_exe().expect("this program"));
@@ -231,7 +226,7 @@ fn no_message_needs_a_thread() {
         return;
     }
     let (core, has_begun, _end) = core();
-    let mut migration = Migration::new(core.clone(), scratch().expect("a file")).expect("events");
+    let mut migration = Migration::new(core.clone()).expect("events");
     let none = libc::rlimit { rlim_cur: 0, rlim_max: 0 };
     // SAFETY: the limit is borrowed, and no other memory is touched.
     unsafe {

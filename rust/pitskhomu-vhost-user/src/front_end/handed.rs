@@ -1,7 +1,7 @@
 //! A front-end that another daemon takes over.
 use super::FrontEnd;
+use crate::device::{Core, ServedFs};
 use crate::ring::Patience;
-use crate::serve::{Core, ServedFs};
 use std::fs::File;
 use std::io;
 use std::os::fd::{AsRawFd, OwnedFd, RawFd};

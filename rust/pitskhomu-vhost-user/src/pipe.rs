@@ -2,14 +2,26 @@
 //! result, so a transfer must end even if it never reads, or never writes.
 use std::fs::File;
 use std::io::{self, Read, Write};
-use std::os::fd::AsRawFd;
+use std::os::fd::{AsRawFd, FromRawFd};
 use std::time::Duration;
 use vmm_sys_util::epoll::{ControlOperation, Epoll, EpollEvent, EventSet};
 
 /// The longest time in which no byte is transferred.
 const LONGEST_PAUSE: Duration = Duration::from_secs(if cfg!(test) { 2 } else { 60 });
 
-/// The daemon's end.
+/// A file in memory, without a name. The filters of some daemons let nobody make one later.
+pub fn scratch() -> io::Result<File> {
+    // SAFETY: the name is a C string.
+    let fd = unsafe { libc::memfd_create(c"pitskhomu-state".as_ptr(), libc::MFD_CLOEXEC) };
+    if fd < 0 {
+        return Err(io::Error::last_os_error());
+    }
+    // SAFETY: the descriptor is new, and nothing else owns it.
+    Ok(unsafe { File::from_raw_fd(fd) })
+}
+
+/// The device's end.
+#[derive(Debug)]
 pub struct Pipe {
     end: File,
     /// Ready when bytes can be transferred: `None` for a file, which is always ready.
@@ -91,7 +103,6 @@ impl Write for Pipe {
 #[cfg(test)]
 mod tests {
     use super::*;
-    use std::os::fd::FromRawFd;
     use std::thread;
 
     const LEN: usize = 1 << 20; // more than a pipe holds
@@ -121,7 +132,7 @@ mod tests {
     /// A state in a file, too, and one by a pipe that is closed early.
     #[test]
     fn files_and_closed_pipes_end_as_before() {
-        let mut file = crate::state::scratch().expect("a file");
+        let mut file = scratch().expect("a file");
         Pipe::out(file.try_clone().expect("a file")).expect("a file").write_all(&[7; 9]).unwrap();
         io::Seek::rewind(&mut file).expect("a file");
         let mut received = Vec::new();

@@ -250,7 +250,7 @@ impl pitskhomu::GuestMemory for Table {
 }
 
 #[cfg(test)]
-pub mod tests {
+pub(crate) mod tests {
     use super::*;
     use pitskhomu::GuestMemory as _;
 
@@ -258,7 +258,7 @@ pub mod tests {
 
     /// Two regions of two pages each: at 0x4000, and at 2^32.
     pub fn table() -> Table {
-        let file = crate::state::scratch().expect("a file in memory");
+        let file = crate::pipe::scratch().expect("a file in memory");
         file.set_len(4 * PAGE).expect("room");
         let regions = [(HIGH, 2 * PAGE), (0x4000, 0)].map(|(guest, offset)| {
             VhostUserMemoryRegion::new(guest, 2 * PAGE, 0x7000_0000 + offset, offset)
