@@ -59,7 +59,7 @@
  *  5. Use windows only until pk_pushed, pk_drop or pk_abandon. Store only into reply windows.
  *  6. A chain keeps the regions that its handle had at the pop. From its first pk_pop until it is
  *     pushed, dropped or abandoned, leave their memory mapped in the VMM. Regions that other
- *     handles get meanwhile must have the queue's rings, too.
+ *     handles get meanwhile must contain the queue's rings, too.
  *  7. During a migration, log each page that you stored into, after the store and before pk_pushed.
  *     Also log data in the reply buffer that isn't part of the reply. Behind an IOMMU, log the
  *     pages of your regions by the host addresses of windows and stores.
@@ -122,11 +122,11 @@ extern "C" {
 #define PK_FIRST 80u             /* bytes of a request to load first */
 #define PK_REQUEST_MAX 0x101000u /* bytes: the least `limit` of struct pk_device */
 #define PK_FRONT_MAX 160u        /* bytes of the longest front of a reply (CREATE's) */
-#define PK_HEADER 16u            /* bytes of struct fuse_out_header: data lies behind it */
+#define PK_HEADER 16u            /* bytes of struct fuse_out_header: data follows it */
 
 /* What a call returns, and what to do then. From 64 on the call changed no chain, queue or device,
  * and zeroed its results, unless its comment says otherwise. Comments list errors in the order of
- * checks; "the usual" are PK_WRONG_ORDER, if the chain has no memory set, or a table's place is
+ * checks; "the usual" are PK_WRONG_ORDER, if the chain has no memory set, or a table's slot is
  * zeros, and then 96 to 103, if a field of the device or queue is invalid: the first of these. */
 enum pk_status {
     PK_DONE = 0, /* the next call, as enum pk_state says */
@@ -151,7 +151,7 @@ enum pk_status {
                              look-up, and reply with the list; the first: pk_reply_err(EINVAL) */
     PK_LIST_FAILS = 37,   /* the entry fits in that size, but not in the reply buffer: undo its
                              look-up, and reply with pk_reply_err(EIO) */
-    PK_ENTRIES = 38,      /* the listing failed behind entries whose look-ups are counted: the reply
+    PK_ENTRIES = 38,      /* the listing failed after entries whose look-ups are counted: the reply
                              has these. After pk_push copy the list's first `len - front_len` bytes
                              into the reply buffer from PK_HEADER on */
     PK_MISS = 39,         /* I/O addresses aren't mapped in the table: map them, and pop again. As
@@ -214,9 +214,9 @@ enum pk_request_fault {
  * have `unique`; all but INIT, DESTROY and BATCH_FORGET have `node`; all but INIT and DESTROY have
  * `uid`, `gid` and `pid`. With FUSE_ALLOW_IDMAP (Linux 6.12 and later; always agreed on) uid and
  * gid are 0xffffffff, except in calls that make a node. These also have `group`, a supplementary
- * group, if `has_group`, and `label_name` and `label`, if `has_label` (FUSE_SECURITY_CTX).
- * Node 1 is the root, which the guest knows without a look-up. Not passed on: FATTR_LOCKOWNER, and
- * the flags of COPY_FILE_RANGE. */
+ * group, if `has_group`, and `label_name` and `label`, if `has_label` (FUSE_SECURITY_CTX). `handle`
+ * is an open file's number (pk_reply_open). Node 1 is the root, which the guest knows without a
+ * look-up. Not passed on: FATTR_LOCKOWNER, and the flags of COPY_FILE_RANGE. */
 enum pk_call_kind {
     PK_CALL_NONE = 0,         /* -> none: it is answered already (unknown opcodes), or never */
     PK_CALL_LOOKUP = 1,       /* name -> entry */
@@ -289,7 +289,7 @@ struct pk_queue {
     uint16_t next_avail;    /* the next chain's number; GET_VRING_BASE's, if none is in flight */
     uint16_t next_used;     /* of the next to push: next_avail - next_used are in flight */
     uint16_t max_in_flight; /* yours: 1 to size; 0 counts as 1 */
-    uint16_t stopped;       /* the refusal (2 to 8) that stopped it, 1 if pk_restore did, or 0 */
+    uint16_t stopped;       /* the status (2 to 8) that stopped it, 1 if pk_restore did, or 0 */
     uint8_t pushing;        /* 1 from pk_push to pk_pushed, else 0 */
     uint8_t event_index;    /* yours: 1 if VIRTIO_F_EVENT_IDX was agreed on, else 0 */
     uint32_t reset_count;   /* the number of its last reset: not 0, and that of no other of 2^32 - 1
@@ -376,7 +376,7 @@ uint32_t pk_pop(struct pk_chain *chain, struct pk_queue *queue, const uint8_t *l
 /* A load that was made ahead of a pop: its host address, and how many bytes it has. */
 struct pk_load_ahead { uintptr_t at; size_t len; };
 /* Pops the next available chain in one call, by loads that you made ahead, under the queue's lock,
- * in the order in which a pop asks for them; `bytes` has their bytes, one load's behind the
+ * in the order in which a pop asks for them; `bytes` has their bytes, one load's after the
  * other's. It is as if pk_pop were called without bytes, and then with each load. A load is taken
  * only if its address and length are those that pk_pop would return next. At the first other one,
  * at the end of the list or of the bytes, at a part of an entry that lies in two regions or
@@ -420,7 +420,7 @@ size_t pk_reply_ranges(struct pk_chain *chain, uint64_t from, uint64_t len, stru
                        size_t range_count) PK_NONNULL(1) PK_WRITES(4, 5);
 
 /* ---------------------------------------------------------------- an IOMMU's table */
-/* A place for a table that maps I/O addresses to guest physical ones. One table serves all chains,
+/* A slot for a table that maps I/O addresses to guest physical ones. One table serves all chains,
  * under your lock. Lend it (pk_chain_exchange_iotlb) before a pop's first call, and take it back
  * once you have read the chain's windows. Lend it around pk_push and pk_set_notification, too. Keep
  * the mappings of a queue's rings while chains are in flight (PK_OTHER_TABLE). Once a chain had a
@@ -431,13 +431,13 @@ struct pk_iotlb { void *at; uint32_t full; };
 enum pk_access { /* VHOST_ACCESS_ of linux/vhost_types.h */
     PK_ACCESS_NONE = 0, PK_ACCESS_READ = 1, PK_ACCESS_WRITE = 2, PK_ACCESS_READ_WRITE = 3 };
 
-/* Puts an empty table into the place. Errors: PK_OUT_OF_MEMORY (only if the place is zeros). */
+/* Puts an empty table into the slot. Errors: PK_OUT_OF_MEMORY (only if the slot is zeros). */
 uint32_t pk_iotlb_new(struct pk_iotlb *iotlb) PK_CHECK(1);
-/* Frees the place with its table, and zeroes it. */
+/* Frees the slot with its table, and zeroes it. */
 void pk_iotlb_free(struct pk_iotlb *iotlb) PK_NONNULL(1);
 
 /* Maps `len` I/O addresses; earlier mappings of them end. With PK_ACCESS_NONE they are refused: a
- * pop that needs them has a refusal or a fault, and no miss. Unmap them after that pop. The last
+ * pop that needs them returns 2 to 8, or a fault, and no miss. Unmap them after that pop. The last
  * page of addresses can't be mapped, and is refused in the same way.
  * Errors: the usual; PK_BAD_ARGUMENT (not an access); PK_WRONG_ORDER (the table is lent);
  * PK_BAD_ARGUMENT (not multiples of 4096; `len` is 0; an end above 2^64 - 1); PK_OUT_OF_MEMORY. */
@@ -447,7 +447,7 @@ uint32_t pk_iotlb_map(struct pk_iotlb *iotlb, uint64_t iova, uint64_t len, uint6
  * Errors: PK_WRONG_ORDER (no table is here); PK_BAD_ARGUMENT (not multiples of 4096; `len` is 0; an
  * end above 2^64); PK_OUT_OF_MEMORY (only if a mapping continues after them). */
 uint32_t pk_iotlb_unmap(struct pk_iotlb *iotlb, uint64_t iova, uint64_t len) PK_CHECK(1);
-/* Exchanges the tables of chain and place; each may have none. It allocates nothing.
+/* Exchanges the tables of chain and slot; each may have none. It allocates nothing.
  * Errors: the usual; PK_CHAIN_IN_FLIGHT (a pop is under way: one table holds for all of it). */
 uint32_t pk_chain_exchange_iotlb(struct pk_chain *chain, struct pk_iotlb *iotlb) PK_CHECK(1, 2);
 
@@ -480,7 +480,7 @@ struct pk_attr {
 
 /* A file call, with the fields that enum pk_call_kind lists; the others are 0. A uint8_t is 0 or 1;
  * flags are those of linux/fuse.h. The guest may send any node, handle, offset and size, also
- * before INIT: a node that it doesn't hold, a handle that isn't open. */
+ * before INIT: a node that it doesn't hold, a file that isn't open. */
 struct pk_call {
     uint32_t kind;   /* enum pk_call_kind */
     uint32_t answer; /* enum pk_answer_kind */
@@ -493,7 +493,7 @@ struct pk_call {
     uint64_t node2, handle2, offset2;
     struct pk_span name, name2, value;
     uint64_t data_at, data_len; /* WRITE: the data in the request. Answers of data and entries: room
-                                   in the reply buffer. READ, WRITE: go by `size` if that is less */
+                                   in the reply buffer. READ, WRITE: use `size` if that is less */
     uint32_t flags, mode, umask, rdev, valid; /* mode: with its type; umask is applied already,
                                                  unless FUSE_DONT_MASK was agreed on */
     uint8_t has_handle, has_owner, delayed, kill_priv, flush, unlock, data_only, has_group;
@@ -602,7 +602,7 @@ uint32_t pk_reply_bytes(struct pk_chain *chain, uint32_t ticket, uint64_t len) P
 
 /* ---------------------------------------------------------------- push */
 /* The stores of a push, then its load, of little-endian numbers (rule 4; VIRTIO 1.2, 2.7.8, 2.7.7).
- * The reply has `len` bytes: the front, and behind it the `len - front_len` bytes of data, of each
+ * The reply has `len` bytes: the front, and after it the `len - front_len` bytes of data, of each
  * kind of reply; both are 0 without a reply. */
 struct pk_stores {
     size_t front_len;        /* bytes of `front`, for the start of the reply buffer; may be 0 */

@@ -2,7 +2,7 @@
  * process. pitskhomu.h includes it for GCC and Clang. Inline functions: tested, not proved.
  * With -fsanitize=thread GCC warns of the barriers: add -Wno-tsan. If the driver runs in the same
  * process, the sanitizer may report a race with pk_ring_load. It also loads descriptors that lie
- * behind the chain's, and that the driver may be writing: the library ignores these. */
+ * after the chain's, and that the driver may be writing: the library ignores these. */
 #if defined(__GNUC__) && !defined(PITSKHOMU_RING_H)
 #define PITSKHOMU_RING_H
 
