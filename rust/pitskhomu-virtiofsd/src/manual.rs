@@ -1,5 +1,7 @@
 //! `manual FOLDER` writes the manual page and the completions of the daemon's options to a folder.
 //! (The package is ../manual.)
+#[allow(dead_code, reason = "only the options need it")]
+mod guest_cache;
 #[allow(dead_code, unused_imports, reason = "only the command is used")]
 mod options;
 
