@@ -11,8 +11,6 @@ use std::sync::{Mutex, MutexGuard};
 use std::time::Duration;
 
 const O_TRUNC: u32 = 0o1000;
-const S_IFREG: u32 = 0o100_000;
-const S_IFDIR: u32 = 0o40_000;
 const FILES: usize = 8;
 const CONTENTS: u64 = 0x4000;
 const NAME_MOST: usize = 255;
@@ -143,11 +141,7 @@ impl FileSystem for Files {
         _handle: Option<Handle>,
     ) -> Answer<(Attributes, Duration)> {
         if node == Node::ROOT {
-            let root = Attributes::default()
-                .with_inode(1)
-                .with_mode(S_IFDIR | 0o755)
-                .with_links(2)
-                .with_block_size(4096);
+            let root = Attributes::directory(0o755).with_inode(1).with_block_size(4096);
             return Ok((root, GOOD_FOR));
         }
         self.with(node, |file| Ok((file.attributes, GOOD_FOR)))
@@ -162,7 +156,7 @@ impl FileSystem for Files {
         self.with(node, |file| {
             set.size().map_or(Ok(()), |size| file.set_size(size))?;
             if let Some(mode) = set.mode() {
-                file.attributes.mode = S_IFREG | (mode & 0o7777);
+                file.attributes.mode = Attributes::file(mode).mode;
             }
             Ok((file.attributes, GOOD_FOR))
         })
@@ -187,10 +181,8 @@ impl FileSystem for Files {
         let is_free = |file: &Option<File>| !file.as_ref().map_or(false, File::lives);
         let place = places.files.iter().position(is_free).ok_or(Errno::ENOSPC)?;
         places.made += 1;
-        let attributes = Attributes::default()
+        let attributes = Attributes::file(create.mode & !create.umask)
             .with_inode(place as u64 + 2)
-            .with_mode(S_IFREG | (create.mode & !create.umask & 0o7777))
-            .with_links(1)
             .with_uid(context.uid)
             .with_gid(context.gid)
             .with_block_size(4096);

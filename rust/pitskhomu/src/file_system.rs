@@ -41,10 +41,10 @@ use core::time::Duration;
 ///
 /// impl Hello {
 ///     fn attributes(&self, node: Node) -> Attributes {
-///         let mode = if node == FILE { 0o100_444 } else { 0o40_555 };
-///         let size = if node == FILE { self.0.len() as u64 } else { 0 };
-///         let attributes = Attributes::default().with_inode(node.0).with_mode(mode);
-///         attributes.with_size(size).with_links(1)
+///         match node {
+///             FILE => Attributes::file(0o444).with_inode(node.0).with_size(self.0.len() as u64),
+///             _ => Attributes::directory(0o555).with_inode(node.0),
+///         }
 ///     }
 /// }
 ///
@@ -119,7 +119,7 @@ pub trait FileSystem {
     fn forget(&self, node: Node, count: u64) {}
 
     /// `BATCH_FORGET`: several nodes at a time. The default calls `forget` for each.
-    fn forget_all(&self, forgets: Forgets<'_>) {
+    fn batch_forget(&self, forgets: Forgets<'_>) {
         forgets.for_each(|(node, count)| self.forget(node, count));
     }
 

@@ -53,7 +53,7 @@
 //! impl<F: FileSystem + Send + Sync> live::Handler for Later<F> {
 //!     fn call(&self, request: Request<'_>) {
 //!         match request.operation {
-//!             Operation::ReadDirectory { .. } => {
+//!             Operation::Readdir { .. } => {
 //!                 // If a step fails, the reply object is dropped, and the guest gets an error.
 //!                 if let Ok(request) = request.into_owned() {
 //!                     let _ = self.jobs.lock().unwrap().send(request);

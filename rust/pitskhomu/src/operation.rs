@@ -40,23 +40,23 @@ pub enum Operation<'a> {
     /// FORGET: no answer.
     Forget { node: Node, count: u64 },
     /// `BATCH_FORGET`: no answer.
-    ForgetAll(Forgets<'a>),
+    BatchForget(Forgets<'a>),
     /// GETATTR: `Attributes`.
-    GetAttributes { node: Node, handle: Option<Handle> },
+    Getattr { node: Node, handle: Option<Handle> },
     /// SETATTR: `Attributes`.
-    SetAttributes { node: Node, set: SetAttributes },
+    Setattr { node: Node, set: SetAttributes },
     /// READLINK: `Data`, of at most `size` bytes.
-    ReadLink { node: Node, size: usize },
+    Readlink { node: Node, size: usize },
     /// SYMLINK: `Entry`.
-    SymbolicLink { link: Child<'a>, target: &'a CStr },
+    Symlink { link: Child<'a>, target: &'a CStr },
     /// MKNOD: `Entry`.
-    MakeNode { child: Child<'a>, make: MakeNode },
+    Mknod { child: Child<'a>, make: MakeNode },
     /// MKDIR: `Entry`.
-    MakeDirectory { child: Child<'a>, make: MakeDirectory },
+    Mkdir { child: Child<'a>, make: MakeDirectory },
     /// UNLINK: `Done`.
     Unlink(Child<'a>),
     /// RMDIR: `Done`.
-    RemoveDirectory(Child<'a>),
+    Rmdir(Child<'a>),
     /// RENAME and RENAME2: `Done`.
     Rename { from: Child<'a>, to: Child<'a>, flags: RenameFlags },
     /// LINK: `Entry`.
@@ -71,39 +71,39 @@ pub enum Operation<'a> {
     /// ([`WriteData::done`]).
     Write { node: Node, write: WriteFile, data: WriteData<'a> },
     /// STATFS: `Statistics`.
-    Statistics { node: Node },
+    Statfs { node: Node },
     /// RELEASE: `Done`.
     Release { node: Node, release: Release },
     /// FSYNC: `Done`.
-    Sync { node: Node, handle: Handle, data_only: bool },
+    Fsync { node: Node, handle: Handle, data_only: bool },
     /// FLUSH: `Done`.
     Flush { node: Node, handle: Handle, lock_owner: u64 },
     /// SETXATTR: `Done`.
-    SetXattr { node: Node, name: &'a CStr, value: &'a [u8], set: SetXattr },
+    Setxattr { node: Node, name: &'a CStr, value: &'a [u8], set: SetXattr },
     /// GETXATTR: `Data`, of at most `size` bytes; `Size` if that is `None`.
-    GetXattr { node: Node, name: &'a CStr, size: Option<usize> },
+    Getxattr { node: Node, name: &'a CStr, size: Option<usize> },
     /// LISTXATTR: as GETXATTR, the names one after another, each with a zero byte after it.
-    ListXattr { node: Node, size: Option<usize> },
+    Listxattr { node: Node, size: Option<usize> },
     /// REMOVEXATTR: `Done`.
-    RemoveXattr { node: Node, name: &'a CStr },
+    Removexattr { node: Node, name: &'a CStr },
     /// OPENDIR: `Opened`.
-    OpenDirectory { node: Node, flags: u32 },
+    Opendir { node: Node, flags: u32 },
     /// READDIR and READDIRPLUS: `Entries`, which `list` makes.
-    ReadDirectory { node: Node, read: ReadDirectory, list: Listing<'a> },
+    Readdir { node: Node, read: ReadDirectory, list: Listing<'a> },
     /// RELEASEDIR: `Done`.
-    ReleaseDirectory { node: Node, handle: Handle, flags: u32 },
+    Releasedir { node: Node, handle: Handle, flags: u32 },
     /// FSYNCDIR: `Done`.
-    SyncDirectory { node: Node, handle: Handle, data_only: bool },
+    Fsyncdir { node: Node, handle: Handle, data_only: bool },
     /// ACCESS: `Done`.
     Access { node: Node, mask: AccessMask },
     /// FALLOCATE: `Done`.
-    Allocate { node: Node, allocate: Allocate },
+    Fallocate { node: Node, allocate: Allocate },
     /// LSEEK: `Offset`.
-    Seek { node: Node, seek: SeekFile },
+    Lseek { node: Node, seek: SeekFile },
     /// `COPY_FILE_RANGE`: `Written`, of at most `len` bytes.
     CopyFileRange(CopyFileRange),
     /// SYNCFS: `Done`.
-    SyncFileSystem { node: Node },
+    Syncfs { node: Node },
 }
 
 /// The name or value at a span of a request.
@@ -195,15 +195,13 @@ impl<'a> Decoded<'a> {
             kind::LOOKUP => Operation::Lookup { parent: node, name: self.name()? },
             kind::FORGET => Operation::Forget { node, count: call.count },
             kind::BATCH_FORGET => {
-                Operation::ForgetAll(Forgets::new(bytes(self.request, call.value)?))
+                Operation::BatchForget(Forgets::new(bytes(self.request, call.value)?))
             }
-            kind::GETATTR => {
-                Operation::GetAttributes { node, handle: optional(call.has_handle, handle) }
-            }
-            kind::SETATTR => Operation::SetAttributes { node, set: self.set_attributes() },
-            kind::STATFS => Operation::Statistics { node },
+            kind::GETATTR => Operation::Getattr { node, handle: optional(call.has_handle, handle) },
+            kind::SETATTR => Operation::Setattr { node, set: self.set_attributes() },
+            kind::STATFS => Operation::Statfs { node },
             kind::ACCESS => Operation::Access { node, mask: AccessMask::from_bits(call.mode) },
-            kind::SYNCFS => Operation::SyncFileSystem { node },
+            kind::SYNCFS => Operation::Syncfs { node },
             kind::COPY_FILE_RANGE => Operation::CopyFileRange(self.copy_file_range()),
             kind::READ => self.read(data),
             kind::WRITE => self.write(data),
@@ -225,17 +223,17 @@ impl<'a> Decoded<'a> {
     fn maker(self) -> Answer<Operation<'a>> {
         let sys::Call { flags, mode, umask, rdev, kill_priv, .. } = *self.call;
         Ok(match self.call.kind {
-            kind::SYMLINK => Operation::SymbolicLink {
+            kind::SYMLINK => Operation::Symlink {
                 link: self.child()?,
                 target: name(self.request, self.call.value)?,
             },
             kind::MKNOD => {
                 let make = MakeNode { mode, rdev, umask };
-                Operation::MakeNode { child: self.child()?, make }
+                Operation::Mknod { child: self.child()?, make }
             }
             kind::MKDIR => {
                 let make = MakeDirectory { mode, umask };
-                Operation::MakeDirectory { child: self.child()?, make }
+                Operation::Mkdir { child: self.child()?, make }
             }
             kind::LINK => {
                 let child = self.child_of(self.call.node2)?;
@@ -252,7 +250,7 @@ impl<'a> Decoded<'a> {
         let from = self.child()?;
         Ok(match self.call.kind {
             kind::UNLINK => Operation::Unlink(from),
-            kind::RMDIR => Operation::RemoveDirectory(from),
+            kind::RMDIR => Operation::Rmdir(from),
             _ => {
                 let parent = Node(self.call.node2);
                 let to = Child { parent, name: name(self.request, self.call.name2)?, label: None };
@@ -265,16 +263,16 @@ impl<'a> Decoded<'a> {
     fn of_values(self) -> Answer<Operation<'a>> {
         let (call, node) = (self.call, Node(self.call.node));
         Ok(match call.kind {
-            kind::READLINK => Operation::ReadLink { node, size: self.size().unwrap_or(0) },
+            kind::READLINK => Operation::Readlink { node, size: self.size().unwrap_or(0) },
             kind::SETXATTR => {
                 let value = bytes(self.request, call.value)?;
                 let kill_sgid = SETXATTR_ACL_KILL_SGID & call.setxattr_flags != 0;
                 let set = SetXattr { flags: call.flags, kill_sgid };
-                Operation::SetXattr { node, name: self.name()?, value, set }
+                Operation::Setxattr { node, name: self.name()?, value, set }
             }
-            kind::GETXATTR => Operation::GetXattr { node, name: self.name()?, size: self.size() },
-            kind::LISTXATTR => Operation::ListXattr { node, size: self.size() },
-            _ => Operation::RemoveXattr { node, name: self.name()? },
+            kind::GETXATTR => Operation::Getxattr { node, name: self.name()?, size: self.size() },
+            kind::LISTXATTR => Operation::Listxattr { node, size: self.size() },
+            _ => Operation::Removexattr { node, name: self.name()? },
         })
     }
 
@@ -288,17 +286,17 @@ impl<'a> Decoded<'a> {
                 let open = Open { flags, kill_priv: self.call.kill_priv != 0 };
                 Operation::Open { node, open }
             }
-            kind::OPENDIR => Operation::OpenDirectory { node, flags },
-            kind::FSYNC => Operation::Sync { node, handle, data_only },
-            kind::FSYNCDIR => Operation::SyncDirectory { node, handle, data_only },
+            kind::OPENDIR => Operation::Opendir { node, flags },
+            kind::FSYNC => Operation::Fsync { node, handle, data_only },
+            kind::FSYNCDIR => Operation::Fsyncdir { node, handle, data_only },
             kind::FLUSH => Operation::Flush { node, handle, lock_owner: owner },
             kind::RELEASE => Operation::Release { node, release: self.release() },
-            kind::RELEASEDIR => Operation::ReleaseDirectory { node, handle, flags },
+            kind::RELEASEDIR => Operation::Releasedir { node, handle, flags },
             kind::FALLOCATE => {
-                Operation::Allocate { node, allocate: Allocate { handle, mode, offset, len } }
+                Operation::Fallocate { node, allocate: Allocate { handle, mode, offset, len } }
             }
             kind::LSEEK => {
-                Operation::Seek { node, seek: SeekFile { handle, offset, whence: flags } }
+                Operation::Lseek { node, seek: SeekFile { handle, offset, whence: flags } }
             }
             _ => Operation::None,
         }
@@ -378,7 +376,7 @@ impl<'a> Decoded<'a> {
             Data::Owned(_) => Listing::owned(at_most(data_len, sys::REQUEST_MAX), with_nodes, size),
         };
         let read = ReadDirectory { handle: Handle(self.call.handle), offset, size };
-        Operation::ReadDirectory { node: Node(self.call.node), read, list }
+        Operation::Readdir { node: Node(self.call.node), read, list }
     }
 }
 
@@ -398,7 +396,7 @@ impl<'a> Decoded<'a> {
 ///         data.put(&b"Hello, guest!"[13.min(read.offset as usize)..]);
 ///         request.reply.send(data)
 ///     }
-///     Operation::None | Operation::Forget { .. } | Operation::ForgetAll(_) => Ok(()),
+///     Operation::None | Operation::Forget { .. } | Operation::BatchForget(_) => Ok(()),
 ///     _ => request.reply.error(Errno::ENOSYS),
 /// }
 /// # }
@@ -468,7 +466,7 @@ impl Request<'_> {
 /// fn list(request: OwnedRequest, files: &dyn FileSystem) {
 ///     let OwnedRequest { call, reply, .. } = request;
 ///     let sent = match call.operation() {
-///         Operation::ReadDirectory { node, read, mut list } => {
+///         Operation::Readdir { node, read, mut list } => {
 ///             let name = CStr::from_bytes_with_nul(b"hello\0").unwrap();
 ///             let entry = DirectoryEntry::new(name, 2, 1, FileKind::REGULAR);
 ///             let look_up = || files.lookup(&call.context, node, name);

@@ -166,7 +166,7 @@ impl<'f> Guest<'f> {
     /// fn first_names(jobs: &Sender<OwnedRequest>) -> Result<Vec<Vec<u8>>, Errno> {
     ///     let mut guest = Guest::by_values(|request| match request.operation {
     ///         Operation::Init(_) => request.reply.send(Options::empty()).unwrap(),
-    ///         Operation::OpenDirectory { .. } | Operation::ReadDirectory { .. } => {
+    ///         Operation::Opendir { .. } | Operation::Readdir { .. } => {
     ///             jobs.send(request.into_owned().unwrap()).unwrap();
     ///         }
     ///         _ => request.reply.error(Errno::ENOSYS).unwrap(),

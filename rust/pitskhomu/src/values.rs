@@ -224,6 +224,34 @@ impl Attributes {
     /// `FUSE_ATTR_DAX`: the file may be mapped. There is no shared memory window here.
     pub const DAX: u32 = 2;
 
+    /// Those of a regular file with one name and these permissions, such as `0o644`. All others
+    /// are 0: add its size, and the times, user and group that it has.
+    ///
+    /// # Examples
+    /// ```
+    /// use pitskhomu::Attributes;
+    ///
+    /// let file = Attributes::file(0o644).with_size(13);
+    /// assert_eq!((file.mode, file.links, file.size), (0o100_644, 1, 13));
+    /// assert_eq!(Attributes::directory(0o1777).mode, 0o41_777);
+    /// ```
+    #[must_use]
+    pub fn file(permissions: u32) -> Attributes {
+        Attributes::of_kind(FileKind::REGULAR, permissions, 1)
+    }
+
+    /// The same of a directory. It has two names, its own and `.`, as one without directories in
+    /// it has on most file systems.
+    #[must_use]
+    pub fn directory(permissions: u32) -> Attributes {
+        Attributes::of_kind(FileKind::DIRECTORY, permissions, 2)
+    }
+
+    fn of_kind(kind: FileKind, permissions: u32, links: u32) -> Attributes {
+        let mode = kind.mode() | permissions & 0o7777;
+        Attributes { mode, links, ..Attributes::default() }
+    }
+
     /// The seconds stay the same 64 bits, which Linux reads as signed.
     #[allow(clippy::cast_sign_loss)]
     pub(crate) fn raw(&self) -> sys::Attr {

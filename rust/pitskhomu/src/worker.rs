@@ -80,8 +80,7 @@ pub struct Served {
 ///         _: Node,
 ///         _: Option<Handle>,
 ///     ) -> Answer<(Attributes, Duration)> {
-///         let root = Attributes::default().with_inode(1).with_mode(0o40_755).with_links(2);
-///         Ok((root, Duration::from_secs(1)))
+///         Ok((Attributes::directory(0o755).with_inode(1), Duration::from_secs(1)))
 ///     }
 /// }
 ///

@@ -309,14 +309,14 @@ fn ask(
     }
     let mut taken = worker.take(queue, device, memory).unwrap().expect("a chain");
     match &mut taken.operation {
-        Operation::ReadDirectory { list, .. } => {
+        Operation::Readdir { list, .. } => {
             (0..steps).for_each(|_| step(random, &mut model, list));
         }
         other => panic!("{other:?}"),
     }
     let wanted = if random.below(2) == 0 {
         let list = match taken.operation {
-            Operation::ReadDirectory { list, .. } => list,
+            Operation::Readdir { list, .. } => list,
             other => panic!("{other:?}"),
         };
         match fails {
@@ -329,7 +329,7 @@ fn ask(
         let owned = taken.into_owned().unwrap();
         let mut later = Model { used: 0, ended: false, items: vec![], ..model.clone() };
         let mut list = match owned.call.operation() {
-            Operation::ReadDirectory { list, .. } => list,
+            Operation::Readdir { list, .. } => list,
             other => panic!("{other:?}"),
         };
         (0..random.below(12)).for_each(|_| step(random, &mut later, &mut list));

@@ -258,11 +258,11 @@ fn a_list_is_as_long_as_the_buffer() {
         let taken = guest.worker.take(&mut guest.queue, &guest.device, &guest.memory);
         let taken = taken.unwrap().expect("a chain waits");
         match &taken.operation {
-            Operation::ReadDirectory { list, .. } => assert_eq!(list.left(), left),
+            Operation::Readdir { list, .. } => assert_eq!(list.left(), left),
             other => panic!("{other:?}"),
         }
         match taken.into_owned().unwrap().call.operation() {
-            Operation::ReadDirectory { list, .. } => assert_eq!(list.left(), left, "owned"),
+            Operation::Readdir { list, .. } => assert_eq!(list.left(), left, "owned"),
             other => panic!("{other:?}"),
         };
     }

@@ -112,13 +112,13 @@ fn entries_want_memory() {
         let Guest { worker, queue, device, memory, .. } = &mut guest;
         let mut taken = worker.take(queue, device, memory).unwrap().expect("a chain");
         match &mut taken.operation {
-            Operation::ReadDirectory { list, .. } if !is_owned => add(list),
-            Operation::ReadDirectory { .. } => {}
+            Operation::Readdir { list, .. } if !is_owned => add(list),
+            Operation::Readdir { .. } => {}
             other => panic!("{other:?}"),
         }
         let owned = taken.into_owned().unwrap();
         match owned.call.operation() {
-            Operation::ReadDirectory { mut list, .. } => {
+            Operation::Readdir { mut list, .. } => {
                 if is_owned {
                     add(&mut list);
                 }

@@ -424,7 +424,7 @@ fn entries_with_nodes_may_come_later() {
     let OwnedRequest { call, reply, .. } = take(&mut guest).into_owned().unwrap();
     let list = move || {
         let mut list = match call.operation() {
-            Operation::ReadDirectory { list, .. } => list,
+            Operation::Readdir { list, .. } => list,
             other => panic!("{other:?}"),
         };
         let entry_of = |name| DirectoryEntry::new(name, 9, 1, FileKind::REGULAR);

@@ -167,10 +167,10 @@ fn directories_and_others() {
     check(|guest| guest.destroy(), (), "destroy ()");
     let recorder = recorder();
     let mut guest = Guest::new(&recorder);
-    guest.forget_all(&[(NODE, 7), (Node(6), 8)]);
+    guest.batch_forget(&[(NODE, 7), (Node(6), 8)]);
     assert_eq!(recorder.taken(), ["forget (Node(5), 7)", "forget (Node(6), 8)"]);
     let pairs = [(NODE, 7), (Node(6), 8)];
-    recorder.forget_all(Forgets::from(&pairs[..]));
+    recorder.batch_forget(Forgets::from(&pairs[..]));
     assert_eq!(recorder.taken(), ["forget (Node(5), 7)", "forget (Node(6), 8)"]);
 }
 

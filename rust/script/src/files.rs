@@ -53,17 +53,12 @@ impl Files {
     }
 
     fn attributes(&self, node: Node) -> Answer<Attributes> {
-        let (size, mode, links) = match node {
-            Node::ROOT => (0, 0o40_755, 2),
-            FILE => (self.contents.borrow().len() as u64, 0o100_644, 1),
+        let attributes = match node {
+            Node::ROOT => Attributes::directory(0o755),
+            FILE => Attributes::file(0o644).with_size(self.contents.borrow().len() as u64),
             _ => return Err(Errno::ENOENT),
         };
-        Ok(Attributes::default()
-            .with_inode(node.0)
-            .with_size(size)
-            .with_mode(mode)
-            .with_links(links)
-            .with_block_size(4096))
+        Ok(attributes.with_inode(node.0).with_block_size(4096))
     }
 
     /// Looks up and forgets an entry that doesn't fit the list. The wrapper doesn't look up such a

@@ -75,7 +75,7 @@ impl Guest<'_> {
     }
 
     /// `BATCH_FORGET`.
-    pub fn forget_all(&mut self, forgets: &[(Node, u64)]) {
+    pub fn batch_forget(&mut self, forgets: &[(Node, u64)]) {
         let head = args().d(forgets.len() as u32).d(0);
         let args = forgets.iter().fold(head, |args, (node, count)| args.q(node.0).q(*count));
         self.tell(42, Node(0), &args.0);

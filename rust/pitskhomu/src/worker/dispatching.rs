@@ -15,10 +15,10 @@ impl Operation<'_> {
     /// an allocation failed.
     pub fn call(self, file_system: &dyn FileSystem, context: &Context) -> Answer<Response> {
         let room = match self {
-            Operation::ReadLink { size, .. } => Some(size),
-            Operation::GetXattr { size, .. } | Operation::ListXattr { size, .. } => size,
+            Operation::Readlink { size, .. } => Some(size),
+            Operation::Getxattr { size, .. } | Operation::Listxattr { size, .. } => size,
             Operation::None => return Ok(Response::Done),
-            Operation::ReadDirectory { node, read, mut list } => {
+            Operation::Readdir { node, read, mut list } => {
                 return match file_system.readdir(context, node, read, &mut list) {
                     Ok(()) => Ok(list.into()),
                     Err(error) => list.fail(error),
@@ -69,17 +69,17 @@ pub(super) fn dispatch(
     Ok(match operation {
         Operation::Init(init) => fs.init(init)?.into(),
         Operation::Lookup { parent, name } => fs.lookup(x, parent, name)?.into(),
-        Operation::GetAttributes { node, handle } => fs.getattr(x, node, handle)?.into(),
-        Operation::SetAttributes { node, set } => fs.setattr(x, node, &set)?.into(),
-        Operation::SymbolicLink { link, target } => fs.symlink(x, link, target)?.into(),
-        Operation::MakeNode { child, make } => fs.mknod(x, child, make)?.into(),
-        Operation::MakeDirectory { child, make } => fs.mkdir(x, child, make)?.into(),
+        Operation::Getattr { node, handle } => fs.getattr(x, node, handle)?.into(),
+        Operation::Setattr { node, set } => fs.setattr(x, node, &set)?.into(),
+        Operation::Symlink { link, target } => fs.symlink(x, link, target)?.into(),
+        Operation::Mknod { child, make } => fs.mknod(x, child, make)?.into(),
+        Operation::Mkdir { child, make } => fs.mkdir(x, child, make)?.into(),
         Operation::Link { node, child } => fs.link(x, node, child)?.into(),
         Operation::Create { child, create } => fs.create(x, child, create)?.into(),
         Operation::Open { node, open } => fs.open(x, node, open)?.into(),
-        Operation::OpenDirectory { node, flags } => fs.opendir(x, node, flags)?.into(),
-        Operation::Statistics { node } => fs.statfs(x, node)?.into(),
-        Operation::Seek { node, seek } => Response::Offset(fs.lseek(x, node, seek)?).into(),
+        Operation::Opendir { node, flags } => fs.opendir(x, node, flags)?.into(),
+        Operation::Statfs { node } => fs.statfs(x, node)?.into(),
+        Operation::Lseek { node, seek } => Response::Offset(fs.lseek(x, node, seek)?).into(),
         Operation::CopyFileRange(copy) => Response::Written(fs.copy_file_range(x, copy)?).into(),
         Operation::Read { node, read, mut data } => {
             fs.read(x, node, read, &mut data)?;
@@ -89,15 +89,15 @@ pub(super) fn dispatch(
             fs.write(x, node, write, &mut data)?;
             data.into()
         }
-        Operation::ReadDirectory { node, read, mut list } => {
+        Operation::Readdir { node, read, mut list } => {
             fs.readdir(x, node, read, &mut list)?;
             list.into()
         }
-        Operation::ReadLink { node, .. } => Made::InBuffer(fs.readlink(x, node, buffer)?),
-        Operation::GetXattr { node, name, .. } => {
+        Operation::Readlink { node, .. } => Made::InBuffer(fs.readlink(x, node, buffer)?),
+        Operation::Getxattr { node, name, .. } => {
             Made::InBuffer(fs.getxattr(x, node, name, buffer)?)
         }
-        Operation::ListXattr { node, .. } => Made::InBuffer(fs.listxattr(x, node, buffer)?),
+        Operation::Listxattr { node, .. } => Made::InBuffer(fs.listxattr(x, node, buffer)?),
         other => done(fs, x, other)?.into(),
     })
 }
@@ -106,27 +106,27 @@ pub(super) fn dispatch(
 fn done(fs: &dyn FileSystem, x: &Context, operation: Operation<'_>) -> Answer<()> {
     match operation {
         Operation::Forget { node, count } => fs.forget(node, count),
-        Operation::ForgetAll(forgets) => fs.forget_all(forgets),
+        Operation::BatchForget(forgets) => fs.batch_forget(forgets),
         Operation::Destroy => fs.destroy(),
         Operation::Unlink(child) => fs.unlink(x, child)?,
-        Operation::RemoveDirectory(child) => fs.rmdir(x, child)?,
+        Operation::Rmdir(child) => fs.rmdir(x, child)?,
         Operation::Rename { from, to, flags } => fs.rename(x, from, to, flags)?,
-        Operation::SetXattr { node, name, value, set } => {
+        Operation::Setxattr { node, name, value, set } => {
             fs.setxattr(x, node, name, value, set)?;
         }
-        Operation::RemoveXattr { node, name } => fs.removexattr(x, node, name)?,
+        Operation::Removexattr { node, name } => fs.removexattr(x, node, name)?,
         Operation::Access { node, mask } => fs.access(x, node, mask)?,
-        Operation::Sync { node, handle, data_only } => fs.fsync(x, node, handle, data_only)?,
-        Operation::SyncDirectory { node, handle, data_only } => {
+        Operation::Fsync { node, handle, data_only } => fs.fsync(x, node, handle, data_only)?,
+        Operation::Fsyncdir { node, handle, data_only } => {
             fs.fsyncdir(x, node, handle, data_only)?;
         }
         Operation::Flush { node, handle, lock_owner } => fs.flush(x, node, handle, lock_owner)?,
         Operation::Release { node, release } => fs.release(x, node, release)?,
-        Operation::ReleaseDirectory { node, handle, flags } => {
+        Operation::Releasedir { node, handle, flags } => {
             fs.releasedir(x, node, handle, flags)?;
         }
-        Operation::Allocate { node, allocate } => fs.fallocate(x, node, allocate)?,
-        Operation::SyncFileSystem { node } => fs.syncfs(x, node)?,
+        Operation::Fallocate { node, allocate } => fs.fallocate(x, node, allocate)?,
+        Operation::Syncfs { node } => fs.syncfs(x, node)?,
         _ => return Err(Errno::ENOSYS),
     }
     Ok(())

@@ -185,16 +185,16 @@ impl Job {
         let node = match operation {
             Operation::Lookup { parent: node, .. }
             | Operation::Forget { node, .. }
-            | Operation::GetAttributes { node, .. }
+            | Operation::Getattr { node, .. }
             | Operation::Open { node, .. }
             | Operation::Read { node, .. }
             | Operation::Write { node, .. }
-            | Operation::Statistics { node }
-            | Operation::GetXattr { node, .. }
+            | Operation::Statfs { node }
+            | Operation::Getxattr { node, .. }
             | Operation::Flush { node, .. }
-            | Operation::OpenDirectory { node, .. }
-            | Operation::ReadDirectory { node, .. }
-            | Operation::Seek { node, .. } => *node,
+            | Operation::Opendir { node, .. }
+            | Operation::Readdir { node, .. }
+            | Operation::Lseek { node, .. } => *node,
             Operation::Create { child, .. } => child.parent,
             Operation::None => return assert_eq!(self.kind, Unknown),
             other => panic!("{other:?}"),
@@ -303,7 +303,7 @@ fn long_list() -> OwnedCall {
 fn entries(tag: u64, count: usize) -> Response {
     let call = long_list();
     let mut list = match call.operation() {
-        Operation::ReadDirectory { list, .. } => list,
+        Operation::Readdir { list, .. } => list,
         other => panic!("{other:?}"),
     };
     for k in 0..count {

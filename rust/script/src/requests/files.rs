@@ -240,7 +240,7 @@ impl FileSystem for Files {
     fn forget(&self, node: Node, count: u64) {
         self.calls.borrow_mut().push(format!("forget ? ? ? {} {count}", node.0));
     }
-    fn forget_all(&self, forgets: Forgets<'_>) {
+    fn batch_forget(&self, forgets: Forgets<'_>) {
         if self.mood.get() == Mood::Default {
             return forgets.for_each(|(node, count)| self.forget(node, count));
         }
