@@ -7,7 +7,8 @@
 #include <stdlib.h>
 #include <string.h>
 
-enum { PAGE = 4096, MEMORY = 6 * PAGE, SIZE = 8, READ = 15, READDIR = 28, REQUEST_LEN = 80 };
+enum { PAGE = 4096, MEMORY = 8 * PAGE, SIZE = 8, REQUEST_LEN = 80 };
+enum { READLINK = 5, READ = 15, READDIR = 28 }; /* enum fuse_opcode */
 enum { ASKED = 0x80 }; /* bytes that the guest asks for */
 enum { DESC = 0x1000, AVAIL = 0x2000, USED = 0x3000, REQUEST = 0x4000, REPLY = 0x5000 };
 
@@ -180,6 +181,21 @@ static void read_too_much(struct pk_chain *chain, uint32_t data_len) {
     end(chain, &q);
 }
 
+/* No call but READ has a number of bytes that it can be answered with: a link may be as long as the
+ * reply buffer. */
+static void read_long_link(struct pk_chain *chain) {
+    struct pk_device device = PK_DEVICE;
+    struct pk_queue q = right_queue;
+    struct pk_pop_result pop;
+    struct pk_call call;
+    expect("a queue", pk_queue_begin(&q, 0), PK_DONE);
+    offer(READLINK, 16 + PAGE + 1);
+    expect("a pop", pop_all(chain, &q, &pop), PK_DONE);
+    expect("a link", pk_decode(chain, &device, memory + REQUEST, REQUEST_LEN, &call), PK_DONE);
+    expect("more than a page", pk_reply_data(chain, call.ticket, PAGE + 1), PK_DONE);
+    end(chain, &q);
+}
+
 /* ------------------------------------------------------------- NULL with length 0 */
 
 static void pass_nothing(struct pk_chain *chain) {
@@ -224,6 +240,7 @@ int main(void) {
     use_queue(&chain);
     read_too_much(&chain, ASKED);
     read_too_much(&chain, ASKED / 2);
+    read_long_link(&chain);
     pass_nothing(&chain);
     pk_chain_free(&chain);
     printf("each mistake of a first day has a number of its own\n");
