@@ -45,7 +45,7 @@ struct pk_turns {
  * lock. The other actions may have PK_WAKE_ONE and PK_INTERRUPT besides. */
 enum pk_action {
     PK_DO_WRONG = 0,      /* the event can't happen now: a mistake of the loop. Nothing changed */
-    PK_DO_RESUME = 1,     /* take up a chain whose answer came later: _resumed, _none_resumed */
+    PK_DO_RESUME = 1,     /* take up an answered chain: _resumed, _none_resumed, _refused */
     PK_DO_POP = 2,        /* pop a chain: _popped, _idle, _full, _paused, _later, _refused */
     PK_DO_ARM = 3,        /* pk_set_notification(1), its store, a barrier: _armed, _not_armed */
     PK_DO_LOOK = 4,       /* compare the available index with next_avail: _more, _no_more */
@@ -62,8 +62,9 @@ enum pk_action {
 /* A queue that no thread serves yet. `event_index`, here and in pk_turns_reset: as in its struct
  * pk_queue. It isn't checked: with another one the threads may sleep while chains are available. */
 void pk_turns_begin(struct pk_turns *turns, uint32_t event_index) PK_NONNULL(1);
-/* The queue was reset, by a thread that holds the lock, while others may sleep. Signal the threads'
- * event then. Returns 1, or 0 if a thread has an action to perform: then nothing changed. */
+/* The queue was reset, by a thread that holds the lock, while others may sleep. A thread that
+ * resets it in its own PK_DO_POP reports what it popped then; else signal the threads' event.
+ * Returns 1, or 0 if a thread has another action to perform: then nothing changed. */
 uint32_t pk_turns_reset(struct pk_turns *turns, uint32_t event_index) PK_CHECK(1);
 
 /* The thread slept, and has the lock: an event woke it, or nothing did. `answers_wait`, here and in
@@ -97,7 +98,8 @@ uint32_t pk_turn_paused(struct pk_turns *turns) PK_CHECK(1);
  * (PK_MISS). */
 uint32_t pk_turn_later(struct pk_turns *turns) PK_CHECK(1);
 /* The queue is refused (1 to 8), or the thread is to end: PK_DO_STOP, with PK_WAKE_ONE if another
- * thread sleeps. So all threads end, if each calls this in place of its next pop. */
+ * thread sleeps. So all threads end, if each calls this in place of its next pop; or in place of
+ * taking up a chain, which the thread that is woken does. */
 uint32_t pk_turn_refused(struct pk_turns *turns) PK_CHECK(1);
 
 /* Notifications are enabled for `next_avail`: the store was made, and then a full barrier. */

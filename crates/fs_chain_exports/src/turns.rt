@@ -6,8 +6,8 @@ ghost use Rattle.fs_turns.specs.declared.machine.TurnEvent.TheVariants.{Woken, B
 ghost use Rattle.fs_turns.specs.declared.machine.TurnEvent.TheVariants.{Popped, Idle, Full, Paused};
 ghost use Rattle.fs_turns.specs.declared.machine.TurnEvent.TheVariants.{Later, Refused, Armed};
 ghost use Rattle.fs_turns.specs.declared.machine.TurnEvent.TheVariants.{NotArmed, More, NoMore, Muted};
-ghost use Rattle.fs_turns_c.specs.Numbers.{nothing_seen, ordered, reset_by, seen_by, seen_of, turned};
-ghost use Rattle.fs_turns_c.specs.Numbers.{turns_of};
+ghost use Rattle.fs_turns_c.specs.Numbers.{may_reset_by, nothing_seen, ordered, reset_by, seen_by, seen_of};
+ghost use Rattle.fs_turns_c.specs.Numbers.{turned, turns_of};
 
 use fs_turns_c::turns::FsTurns;
 
@@ -19,12 +19,12 @@ pub extern "C" fn pk_turns_begin(turns: &mut FsTurns, event_index: u32)
     *turns = FsTurns::new(event_index != 0);
 }
 
-/// The queue was reset while threads may sleep. Returns 1; or 0 if a thread has an action to perform under
-/// the lock, and then nothing changed.
+/// The queue was reset while threads may sleep: before a thread's event, or in its pop. Returns 1; or 0 if a
+/// thread has another action to perform under the lock, and then nothing changed.
 #[unsafe(no_mangle)]
 pub extern "C" fn pk_turns_reset(turns: &mut FsTurns, event_index: u32) -> u32
     ensures turns { turns_of turns.new ≡ reset_by turns.old (not (event_index == 0)) }
-    ensures done { result ≡ (if turns.old.phase == 0 then 1 else 0) }
+    ensures done { result ≡ (if may_reset_by turns.old.phase then 1 else 0) }
     ensures refused { result ≡ 0 → turns.new ≡ turns.old }
 {
     if turns.reset(event_index != 0) { 1 } else { 0 }

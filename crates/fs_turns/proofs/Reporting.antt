@@ -97,6 +97,7 @@ resuming size most b w o p c NoneResumed fresh comes k truly may =
     (λ _ some. let none = eq_of w.answered 0 may in absurd (omega (arith, none, some)))
     (λ _ _ some. let none = eq_of w.answered 0 may in absurd (omega (arith, none, some)))
     (λ so. cc)
+resuming size most b w o p c Refused fresh comes k truly may = ends size most b w o p c k
 resuming size most b w o p c _ fresh comes k truly may = absurd (true_false false may refl)
 
 popping : (size most : ℕ) (b : Bool) (w : World) (o p : Bool) (c : ℕ) (e : TurnEvent) (fresh comes : Bool) → Walks b w o p c
@@ -125,7 +126,7 @@ popping size most b w o p c Later true comes k truly waits may =
     acts size most b (settles loaded (leaves w.turns act.StepAside false)) (model_of w o p c Walker) Loads refl
     (steps_aside size most b loaded o p c (rewalk b w o p c k w.index w.position w.out w.answered))
 popping size most b w o p c Later false comes k truly waits may = steps_aside size most b w o p c k
-popping size most b w o p c Refused fresh comes k truly waits may = ends size most b w o p c k waits
+popping size most b w o p c Refused fresh comes k truly waits may = ends size most b w o p c k
 popping size most b w o p c _ fresh comes k truly waits may = absurd (true_false false may refl)
 
 -- behind the barrier the thread walks on

@@ -283,13 +283,18 @@ steps_aside size most b w o p c k =
     more c v n h = omega arith
 
 -- it ends
-pub ends : (size most : ℕ) (b : Bool) (w : World) (o p : Bool) (c : ℕ) → Walks b w o p c → (0 < w.answered → IsAhead w)
+pub ends : (size most : ℕ) (b : Bool) (w : World) (o p : Bool) (c : ℕ) → Walks b w o p c
     → Goes size most b (settles w (machine.ends w.turns)) (model_of w o p c Walker)
-ends size most b w o p c k waits =
+ends size most b w o p c k =
     cond_both (w.turns.sleeping == 0) (leaves w.turns act.Stop false) (leaves (record w.turns { called = true }) act.Stop true)
     (λ (n : Next). Goes size most b (settles w n) (model_of w o p c Walker))
-    (λ none. quiet_leaves size most b w o p c k (inl (inl (eq_of w.turns.sleeping 0 none))) (λ _. waits))
+    (λ none. let nobody = eq_of w.turns.sleeping 0 none in
+    quiet_leaves size most b w o p c k (inl (inl nobody))
+    (λ some _. absurd (empty w.turns.sleeping w.sleepers w.woken nobody k.sleeping some)))
     (λ _. wake_leaves size most b w o p c k)
+  where
+    empty : (a s v : ℕ) → a ≡ 0 → a ≡ s + v → 0 < s → ⊥
+    empty a s v none h some = omega arith
 
 -- ---- a thread sleeps
 

@@ -1,9 +1,9 @@
 -- The loop over resets: a queue begins again while its threads sleep, answer chains, or wait for the lock.
-use Rattle.std.specs.Prelude.{◌≡◌, ℕ, ◌^◌, ◌<◌, ◌≤◌, Bool, true, false, ◌⊎◌, List, [], ◌∷◌}
+use Rattle.std.specs.Prelude.{◌≡◌, ℕ, ◌^◌, ◌<◌, ◌≤◌, Bool, false, ◌||◌, ◌⊎◌, IsTrue, List, [], ◌∷◌}
 use Rattle.notify.specs.Kicks.{moved}
 use Rattle.notify.specs.Threads.{Ways, right_ways}
 use Rattle.fs_turns.specs.declared.machine.TurnPhase.TheVariants.{Free}
-use Rattle.fs_turns.specs.Next.{reset_turns}
+use Rattle.fs_turns.specs.Next.{reset_turns, is_free, may_reset}
 use Rattle.fs_turns.specs.Worlds.{World, Move, Moves, HasChain, IsForgotten, begun}
 
 -- from a reset to the next one: the queue as it begins, perhaps with other features, size and indices; and
@@ -21,15 +21,15 @@ pub record Life : Type 0 where
 abbrev pub ways_in : Life → Ways
 ways_in l = right_ways l.size l.max_in_flight l.by_event
 
--- a thread that holds the lock resets the queue, and signals the threads' event. Chains and answers from
--- before aren't the queue's any more
+-- a thread that holds the lock resets the queue: before its event, and then it signals the threads' event; or
+-- in its own pop. Chains and answers from before aren't the queue's any more
 abbrev pub begun_again : Life → World → World
 begun_again l w =
     record w {
       index = moved l.place l.waiting;
       event = l.event;
       muted = l.muted;
-      pending = true;
+      pending = w.pending || is_free w.turns.phase;
       published = moved l.place l.waiting;
       unchecked = 0;
       owes = false;
@@ -43,11 +43,11 @@ begun_again l w =
       answered = 0;
     }
 
--- a life begins only while no thread has an action to perform under the lock
+-- a life begins only while no thread has an action to perform under the lock, but for a pop
 abbrev pub Lives : World → List Life → World → Type 0
 Lives w [] end = end ≡ w
 Lives w (l ∷ ls) end =
-    (w.turns.phase ≡ Free)
+    IsTrue (may_reset w.turns.phase)
     × (between : World)
     × Moves (ways_in l) (begun_again l w) l.moves between
     × Lives between ls end

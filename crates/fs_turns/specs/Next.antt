@@ -35,12 +35,18 @@ begun_turns by_event =
       phase = Free;
     }
 
+-- before a thread's event, or in its own pop
+abbrev pub may_reset : TurnPhase → Bool
+may_reset Free = true
+may_reset Pops = true
+may_reset _ = false
+
 -- the queue was reset, while threads may sleep: memory says nothing of their notifications
 abbrev pub reset_turns : Turns → (by_event : Bool) → Turns
 reset_turns t by_event = record t { by_event = by_event; notifications = Unknown }
 
 abbrev pub after_reset : Turns → (by_event : Bool) → Turns
-after_reset t by_event = if is_free t.phase then reset_turns t by_event else t
+after_reset t by_event = if may_reset t.phase then reset_turns t by_event else t
 
 abbrev pub only : TurnAction → TurnOrders
 only action = record { action = action; wakes = false; interrupts = false }
@@ -108,6 +114,13 @@ rests t =
     then leaves t act.StepAside false
     else leaves (record t { sleeping = t.sleeping + 1 }) act.Sleep false
 
+-- it ends, and another thread continues
+abbrev pub ends : Turns → Next
+ends t =
+    if t.sleeping == 0
+    then leaves t act.Stop false
+    else leaves (record t { called = true }) act.Stop true
+
 -- it has taken the lock. `no_answer`: no chain waits whose answer came later
 abbrev pub begins : Turns → (no_answer : Bool) → Next
 begins t no_answer = if no_answer then stays t Pops act.Pop else stays t Resumes act.Resume
@@ -124,6 +137,7 @@ abbrev pub resumes : Turns → TurnEvent → Seen → Next
 resumes t (Resumed another) p =
     if another && (nat_lt 0 t.sleeping && not t.called) then wakes_one t else hands_on t p
 resumes t NoneResumed p = stays t Pops act.Pop
+resumes t Refused p = ends t
 resumes t _ p = wrong t
 
 abbrev pub finds_none : Turns → (polls : Bool) → Seen → Next
@@ -131,13 +145,6 @@ finds_none t polls p =
     if polls
     then leaves t act.StepAside false
     else (if is_enabled_at t.by_event t.notifications p.next_avail then rests t else arms t ArmsToSleep)
-
--- it ends, and another thread continues
-abbrev pub ends : Turns → Next
-ends t =
-    if t.sleeping == 0
-    then leaves t act.Stop false
-    else leaves (record t { called = true }) act.Stop true
 
 abbrev pub pops : Turns → TurnEvent → Seen → Next
 pops t Popped p = hands_on t p

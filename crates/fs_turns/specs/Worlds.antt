@@ -99,6 +99,7 @@ is_arming _ = false
 abbrev pub is_resumed : World → TurnEvent → Bool
 is_resumed w (Resumed another) = nat_lt 0 w.answered && (another || nat_le w.answered 1)
 is_resumed w NoneResumed = w.answered == 0
+is_resumed w Refused = true
 is_resumed w _ = false
 
 abbrev pub is_popped : Ways → World → TurnEvent → (fresh : Bool) → Bool

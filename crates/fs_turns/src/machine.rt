@@ -2,7 +2,7 @@
 
 ghost use Rattle.std.specs.Prelude.{◌≡◌};
 ghost use Rattle.fs_turns.specs.Next.{arms, arms_to_answer, arms_to_sleep, begins, begun_turns, ends, enters};
-ghost use Rattle.fs_turns.specs.Next.{after_reset, finds_none, is_free};
+ghost use Rattle.fs_turns.specs.Next.{after_reset, finds_none, may_reset};
 ghost use Rattle.fs_turns.specs.Next.{hands_on, is_disabled, is_enabled_at, leaves, looks, muted, next, pops};
 ghost use Rattle.fs_turns.specs.Next.{rests};
 ghost use Rattle.fs_turns.specs.Next.{resumes, stays, wakes_one};
@@ -63,7 +63,7 @@ pub enum TurnEvent {
     Paused,
     /// The thread must try again later: an allocation failed, or the IOMMU hasn't answered.
     Later,
-    /// The queue is refused, or the thread is to end.
+    /// The queue is refused, or the thread is to end, though a chain may wait for it.
     Refused,
     /// Notifications are enabled: the store was made, and then a full barrier.
     Armed,
@@ -80,7 +80,7 @@ pub enum TurnEvent {
 /// What the thread does next. It keeps the lock for the first five.
 #[derive(Clone, Copy, Drop)]
 pub enum TurnAction {
-    /// Take up a chain whose answer came later. Report `Resumed` or `NoneResumed`.
+    /// Take up a chain whose answer came later. Report `Resumed`, `NoneResumed` or `Refused`.
     Resume,
     /// Pop a chain. Report `Popped`, `Idle`, `Full`, `Paused`, `Later` or `Refused`.
     Pop,
@@ -180,13 +180,15 @@ impl Turns {
     }
 
     /// The queue was reset by a thread that holds its lock, while others may sleep or answer chains.
-    /// Signal the threads' event then, since chains may be available. Returns `false`, and changes
-    /// nothing, while a thread has an action to perform under the lock.
+    /// - Before its event: signal the threads' event then, since chains may be available.
+    /// - In its own pop, once `Pop` is ordered: then it reports what it popped of the new queue.
+    ///
+    /// Returns `false`, and changes nothing, while a thread has another action to perform.
     pub fn reset(&mut self, by_event: bool) -> bool
         ensures turns { self.new ≡ after_reset self.old by_event }
-        ensures done { result ≡ is_free self.old.phase }
+        ensures done { result ≡ may_reset self.old.phase }
     {
-        if !matches!(self.phase, TurnPhase::Free) {
+        if !matches!(self.phase, TurnPhase::Free | TurnPhase::Pops) {
             return false;
         }
         self.by_event = by_event;
@@ -338,6 +340,7 @@ impl Turns {
                 self.hands_on(seen)
             }
             TurnEvent::NoneResumed => self.stays(TurnPhase::Pops, TurnAction::Pop),
+            TurnEvent::Refused => self.ends(),
             _ => WRONG,
         }
     }

@@ -1,5 +1,5 @@
 -- The machine of a queue's threads by the numbers that C keeps and gets.
-use Rattle.std.specs.Prelude.{ℕ, ◌+◌, ◌==◌, Bool, false, not, nat_lt, if◌then◌else◌}
+use Rattle.std.specs.Prelude.{ℕ, ◌+◌, ◌==◌, Bool, false, not, ◌||◌, nat_lt, if◌then◌else◌}
 use Rattle.fs_turns_c.specs.declared.turns.FsTurns.{FsTurns}
 use Rattle.fs_turns.specs.declared.machine.Turns.{Turns}
 use Rattle.fs_turns.specs.declared.machine.TurnOrders.{TurnOrders}
@@ -81,6 +81,10 @@ turned f e s = (next_of f e s).turns
 abbrev pub ordered : FsTurns → TurnEvent → Seen → ℕ
 ordered f e s = orders_number (next_of f e s).orders
 
+-- before an event, or in a pop
+abbrev pub may_reset_by : ℕ → Bool
+may_reset_by phase = phase == 0 || phase == 2
+
 -- after a reset
 abbrev pub reset_by : FsTurns → (event_index : Bool) → Turns
-reset_by f event_index = if f.phase == 0 then reset_turns (turns_of f) event_index else turns_of f
+reset_by f event_index = if may_reset_by f.phase then reset_turns (turns_of f) event_index else turns_of f

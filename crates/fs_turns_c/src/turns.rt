@@ -7,8 +7,8 @@ ghost use Rattle.fs_turns.specs.declared.machine.TurnEvent.TheVariants.{Woken, B
 ghost use Rattle.fs_turns.specs.declared.machine.TurnEvent.TheVariants.{Popped};
 ghost use Rattle.fs_turns.specs.declared.machine.TurnEvent.TheVariants.{Idle, Full, Paused, Later, Refused};
 ghost use Rattle.fs_turns.specs.declared.machine.TurnEvent.TheVariants.{Armed, NotArmed, More, NoMore, Muted};
-ghost use Rattle.fs_turns_c.specs.Numbers.{nothing_seen, ordered, orders_number, reset_by, seen_of, turned};
-ghost use Rattle.fs_turns_c.specs.Numbers.{turns_of};
+ghost use Rattle.fs_turns_c.specs.Numbers.{may_reset_by, nothing_seen, ordered, orders_number, reset_by};
+ghost use Rattle.fs_turns_c.specs.Numbers.{seen_of, turned, turns_of};
 
 /// `struct pk_turns`: the turns of a queue's threads, which lie with the queue under its lock.
 #[repr(C)]
@@ -92,10 +92,10 @@ impl FsTurns {
     /// `Turns::reset`.
     pub fn reset(&mut self, event_index: bool) -> bool
         ensures turns { turns_of self.new ≡ reset_by self.old event_index }
-        ensures done { result ≡ (self.old.phase == 0) }
+        ensures done { result ≡ may_reset_by self.old.phase }
         ensures refused { result ≡ false → self.new ≡ self.old }
     {
-        if self.phase != FREE {
+        if self.phase != FREE && self.phase != POPS {
             return false;
         }
         self.event_index = u8::from(event_index);
@@ -347,13 +347,13 @@ impl FsTurns {
 
     /// `TurnEvent::Refused`.
     #[inline(always)]
-    #[tactic(auto, using(crate::proofs::Phases::when_popping))]
+    #[tactic(auto, using(crate::proofs::Phases::when_resuming, crate::proofs::Phases::when_popping))]
     pub fn refused(&mut self) -> u32
         ensures turns { turns_of self.new ≡ turned self.old Refused nothing_seen }
         ensures orders { result ≡ ordered self.old Refused nothing_seen }
         ensures refused { result ≡ 0 → self.new ≡ self.old }
     {
-        if self.phase != POPS {
+        if self.phase != RESUMES && self.phase != POPS {
             return DO_WRONG;
         }
         if self.sleeping == 0 {

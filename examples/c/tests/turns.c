@@ -1,7 +1,7 @@
 /* The machine of pitskhomu_turns.h in every order of the loads, stores and signals of a few threads
  * and a driver: `turns` explores all worlds that result, and finds none in which a turn is lost.
  * The world is that of crates/fs_turns (specs/Worlds), written by hand: so it also shows that the
- * theorem isn't empty. Twelve wrong machines, each with one order changed, each lose a turn. */
+ * theorem isn't empty. Fourteen wrong machines, each with one order changed, each lose a turn. */
 #include "pitskhomu_turns.h"
 #include <stdbool.h>
 #include <stdio.h>
@@ -12,12 +12,13 @@ enum { START = 65534, MOST_WORLDS = 1 << 19, TABLE = 1 << 21 };
 enum wrong {
     RIGHT, WAKES_NOBODY, ANY_POSITION, NEVER_HANDS_ON, LOOKS_NOT_AGAIN, STAYS_CALLED,
     SLEEPS_AT_ONCE, SLEEPS_AFTER_ITS_WISH, LEAVES_ANSWERS, FORGETS_ANSWERS, ENDS_ALONE,
-    FORGETS_INTERRUPTS, KEEPS_ITS_WISH, WRONG_MACHINES
+    FORGETS_INTERRUPTS, KEEPS_ITS_WISH, ENDS_WITH_ANSWERS, POPS_WITH_ITS_WISH, WRONG_MACHINES
 };
 static const char *const names[] = {
     "the machine", "wakes nobody", "a wish for any position", "never hands on", "looks not again",
     "stays called", "sleeps at once", "sleeps after its wish", "leaves answers",
-    "forgets answers", "ends alone", "forgets interrupts", "keeps its wish over a reset"};
+    "forgets answers", "ends alone", "forgets interrupts", "keeps its wish over a reset",
+    "ends alone with answers", "keeps its wish over a reset in a pop"};
 
 /* How much may happen. Each list of bounds has few worlds. */
 struct bounds {
@@ -27,7 +28,7 @@ static const struct bounds all_bounds[] = {
     {2, 2, 3, 0, 0, 0, 0, 0, 0}, {3, 2, 2, 0, 0, 0, 0, 0, 0}, {3, 1, 2, 0, 0, 0, 0, 0, 0},
     {2, 2, 2, 1, 0, 0, 0, 0, 0}, {2, 2, 1, 2, 0, 0, 0, 0, 0}, {2, 2, 2, 0, 1, 0, 0, 0, 0},
     {2, 2, 2, 0, 0, 1, 0, 0, 0}, {2, 2, 2, 0, 0, 0, 1, 0, 0}, {2, 2, 2, 0, 0, 0, 0, 1, 0},
-    {2, 2, 2, 0, 0, 0, 0, 0, 1}};
+    {2, 2, 2, 0, 0, 0, 0, 0, 1}, {2, 2, 1, 1, 0, 0, 0, 1, 0}};
 
 struct world {
     uint16_t index, event, published, position, known, wish;
@@ -127,8 +128,9 @@ static uint32_t armed(struct world *world) {
 }
 
 static uint32_t refused(struct world *world) {
+    bool is_alone = is(world->turns.phase == 1 ? ENDS_WITH_ANSWERS : ENDS_ALONE);
     uint32_t orders = pk_turn_refused(&world->turns);
-    return is(ENDS_ALONE) ? orders & ~(uint32_t)PK_WAKE_ONE : orders;
+    return is_alone ? orders & ~(uint32_t)PK_WAKE_ONE : orders;
 }
 
 static uint32_t woken(struct world *world, bool answers) {
@@ -161,6 +163,10 @@ static void follows(struct world next, uint32_t orders, const char *move) {
     adds(&next, move);
 }
 
+static void ends(struct world now, const char *move) {
+    if (now.ends < all->most.ends) now.ends++, follows(now, refused(&now), move);
+}
+
 static void pops(struct world now, bool comes) {
     struct world next = now;
     uint16_t indices[] = {now.index, now.known};
@@ -181,8 +187,7 @@ static void pops(struct world now, bool comes) {
     if (now.paused) follows(next, pk_turn_paused(&next.turns), "finds it paused");
     next = now;
     follows(next, pk_turn_later(&next.turns), "lacks memory");
-    next = now;
-    if (now.ends < all->most.ends) next.ends++, follows(next, refused(&next), "ends");
+    ends(now, "ends");
 }
 
 static void reports(struct world now, bool comes) {
@@ -191,6 +196,7 @@ static void reports(struct world now, bool comes) {
     case 1:
         if (now.answered) next.answered--, follows(next, resumed(&next, comes), "resumes");
         else follows(next, pk_turn_none_resumed(&next.turns), "resumes none");
+        ends(now, "ends, though an answer may wait");
         break;
     case 2: pops(now, comes); break;
     case 3:
@@ -228,19 +234,22 @@ static void enters(struct world now) {
     }
 }
 
-/* A thread with the lock has the queue begin again, without a chain, and signals. In memory
- * notifications are as they were at the start. */
+/* A thread with the lock has the queue begin again, without a chain: before its event, and then it
+ * signals, or in its pop. In memory notifications are as they were at the start. */
 static void resets(struct world now) {
     struct world next = now;
-    if (now.turns.phase || now.resets == all->most.resets) return;
+    bool in_pop = now.turns.phase == 2;
+    if ((now.turns.phase && !in_pop) || now.resets == all->most.resets) return;
     next.resets++;
     next.index = next.published = next.position = next.known = START;
     next.event = START - 1, next.wish = 0;
     next.unchecked = next.out = next.answered = 0;
-    next.muted = next.pending = true, next.owes = next.hidden = next.stored = false;
+    next.muted = true, next.owes = next.hidden = next.stored = false;
+    next.pending |= !in_pop;
     if (!pk_turns_reset(&next.turns, all->by_event)) die("a reset is refused", all->at);
-    if (is(KEEPS_ITS_WISH)) next.turns.notifications = now.turns.notifications;
-    adds(&next, "begins again");
+    if (is(in_pop ? POPS_WITH_ITS_WISH : KEEPS_ITS_WISH))
+        next.turns.notifications = now.turns.notifications;
+    adds(&next, in_pop ? "begins again in its pop" : "begins again");
 }
 
 /* ------------------------------------------------------------- the driver, and signals */
@@ -323,15 +332,16 @@ static uint32_t tries(struct pk_turns *turns, unsigned event) {
     default: return pk_turns_reset(turns, 0);
     }
 }
-static const uint8_t first_phase[] = {0, 0, 1, 1, 2, 2, 2, 2, 2, 2, 3, 3, 5, 5, 6, 0};
+static const uint8_t first_phase[] = {0, 0, 1, 1, 2, 2, 2, 2, 2, 2, 3, 3, 5, 5, 6, 0},
+                     second_phase[] = {0, 0, 0, 0, 0, 0, 0, 0, 0, 1, 4, 4, 0, 0, 0, 2};
 
 /* An event that can't happen now is refused, and changes nothing. So it is by any phase. */
 static void refuses_others(const struct pk_turns *now, uint8_t phase) {
     for (unsigned event = 0; event < 16; event++) {
         struct pk_turns turns = *now, was;
         turns.phase = phase, was = turns;
-        bool is_arming = event == 10 || event == 11;
-        bool fits = (phase == first_phase[event] || (is_arming && phase == 4)) &&
+        bool is_second = phase == second_phase[event];
+        bool fits = (phase == first_phase[event] || (is_second && phase)) &&
                     !(event == 0 && now->sleeping == 0);
         if (fits != (tries(&turns, event) != PK_DO_WRONG)) die("a wrong event", all->at);
         if (!fits && memcmp(&turns, &was, sizeof turns)) die("a wrong event's change", all->at);

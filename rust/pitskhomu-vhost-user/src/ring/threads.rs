@@ -31,8 +31,8 @@ impl<S: Server> live::Server<State> for Thread<'_, S> {
         }
     }
 
-    /// With new numbers none is taken until the chains in flight are returned with the old ones. A
-    /// late call looks again when it ends.
+    /// With new numbers none is taken until the chains in flight are returned with the old ones:
+    /// the thread that returns the last one wakes the others. So does a late call when it ends.
     fn pop(&mut self, state: &mut State) -> Result<Taken, Status> {
         let waits = state.is_new && state.queue.in_flight() > 0;
         if waits || self.ring.late.load(Ordering::SeqCst) > 0 {
@@ -82,6 +82,9 @@ impl<S: Server> live::Server<State> for Thread<'_, S> {
             }
         }
         self.doing.end();
+        if state.is_new && state.queue.in_flight() == 0 {
+            self.ring.look(); // threads that found the queue paused may sleep
+        }
         self.server.must_undo()
     }
 

@@ -83,8 +83,8 @@ pub trait Server<Q> {
     /// Pops the next chain, if one is available.
     ///
     /// # Errors
-    /// - `ChainInFlight`: no chain can be popped now. Who changes that looks again, as a thread
-    ///   does that returns a chain, or others by [`Loop::look`].
+    /// - `ChainInFlight`: no chain can be popped now. Who changes that calls [`Loop::look`], unless
+    ///   it returns a chain, and as many as may be were in flight.
     /// - `OutOfMemory`: it is tried again in a moment.
     /// - Any other is a refusal: `refuse` is called.
     fn pop(&mut self, queued: &mut Q) -> Result<Popped, Status>;

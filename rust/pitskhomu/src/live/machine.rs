@@ -100,16 +100,20 @@ impl Turns {
         Turns(turns)
     }
 
-    /// The queue begins again, while its threads sleep on. Wake one then. If a thread is amid its
-    /// turn (a panic has ended it, or the queue began in its pop), the turn is over: others came,
-    /// and sleep until the queue goes on.
-    pub fn begin_again(&mut self, event_index: bool) {
+    /// The queue begins again, while its threads sleep on: before a thread's event, and wake one
+    /// then; or in a thread's pop, before that reports what it popped.
+    pub fn reset(&mut self, event_index: bool) {
         // SAFETY: the struct is valid for the call, which keeps no pointer.
-        if unsafe { sys::pk_turns_reset(&mut self.0, event_index.into()) } == 0 {
-            let sleeping = self.sleeping();
-            *self = Turns::new(event_index);
-            self.add_sleeping(sleeping);
-        }
+        let is_reset = unsafe { sys::pk_turns_reset(&mut self.0, event_index.into()) };
+        debug_assert!(is_reset != 0, "a thread has another action");
+    }
+
+    /// A panic has ended the thread that was amid its turn. Others came, and sleep until the queue
+    /// goes on.
+    pub fn end_turn(&mut self) {
+        let sleeping = self.sleeping();
+        *self = Turns::new(self.has_event_index());
+        self.add_sleeping(sleeping);
     }
 
     /// So many threads come, and sleep until something wakes them.

@@ -231,8 +231,11 @@ impl Server<State> for Hand<'_> {
     fn pop(&mut self, state: &mut State) -> Result<Popped, Status> {
         self.is_resumed = false;
         let seat = self.seat(state)?;
-        let is_popped = seat.worker.pop(&mut state.queue, &*seat.mapped.memory)?;
-        Ok(if is_popped { Popped::Chain } else { Popped::Idle })
+        let is_popped = seat.worker.pop(&mut state.queue, &*seat.mapped.memory);
+        if is_popped != Ok(true) {
+            state.idle.extend(self.seat.take()); // others may pop while this thread steps aside
+        }
+        Ok(if is_popped? { Popped::Chain } else { Popped::Idle })
     }
 
     fn answer(&mut self) -> bool {
@@ -294,7 +297,11 @@ impl Server<State> for Hand<'_> {
 
     fn set_notification(&mut self, state: &mut State, enabled: bool) -> Result<bool, Status> {
         let seat = self.seat(state)?;
-        seat.worker.set_notification(&state.queue, enabled, &*seat.mapped.memory)
+        let is_set = seat.worker.set_notification(&state.queue, enabled, &*seat.mapped.memory);
+        if !seat.worker.has_chain() {
+            state.idle.extend(self.seat.take());
+        }
+        is_set
     }
 
     fn available_index(&mut self, state: &State) -> Option<u16> {
@@ -310,7 +317,6 @@ impl Server<State> for Hand<'_> {
 
     /// It ends if nothing is left for it.
     fn rests(&mut self, state: &mut State) -> bool {
-        state.idle.extend(self.seat.take());
         state.is_ending && (state.is_reset || state.is_quiet())
     }
 }

@@ -40,16 +40,25 @@ impl<Q: Queued> Locked<Q> {
             return false;
         }
         self.begun = begun;
-        self.turns.begin_again(has_index);
+        if !self.turns.is_free() {
+            self.turns.end_turn();
+        }
+        self.turns.reset(has_index);
         true
     }
 
     /// The same in a pop, by which a queue may begin, too.
     fn begin_again_in_pop(&mut self) {
-        if self.turns.has_event_index() != self.queue().has_event_index() {
-            self.begin_again();
-            self.begin_turn(Came::Pushed, false);
+        let has_index = self.queue().has_event_index();
+        if self.turns.has_event_index() != has_index {
+            self.turns.reset(has_index);
         }
+    }
+
+    /// Whether as many chains are in flight as may be, or all workers have one.
+    fn is_full(&self) -> bool {
+        let queue = self.queue();
+        !self.has_room() || queue.in_flight() >= queue.max_in_flight()
     }
 
     fn begin_turn(&mut self, came: Came, answers_wait: bool) -> Orders {
@@ -119,7 +128,7 @@ impl<'l, 's, Q: Queued, S: Server<Q>> Thread<'l, 's, Q, S> {
     /// A turn, under the lock. Returns what the thread does without it.
     fn take_turn(&mut self, mut state: Held<'l, Q>, came: Came) -> Action {
         let mut wakes = state.begin_again();
-        let answers_wait = !self.leaves() && self.server.has_answered(&state);
+        let answers_wait = self.server.has_answered(&state);
         let mut orders = state.begin_turn(came, answers_wait);
         let mut interrupts = orders.interrupts;
         loop {
@@ -163,8 +172,8 @@ impl<'l, 's, Q: Queued, S: Server<Q>> Thread<'l, 's, Q, S> {
             Action::Look => Some(self.look(state)),
             Action::Mute => Some(self.mute(state)),
             Action::Sleep if self.server.rests(state) => {
-                self.ended = Some(Ok(()));
-                Some(Event::Woken { answers_wait: false }) // it doesn't sleep, but ends
+                self.ended = Some(Ok(())); // it doesn't sleep, but ends
+                Some(Event::Woken { answers_wait: self.server.has_answered(state) })
             }
             Action::Wrong => {
                 debug_assert!(false, "an event that can't happen");
@@ -176,9 +185,11 @@ impl<'l, 's, Q: Queued, S: Server<Q>> Thread<'l, 's, Q, S> {
         }
     }
 
-    /// Takes up a chain that waited for its answer.
+    /// Takes up a chain that waited for its answer, unless the thread ends: then another does.
     fn resume(&mut self, state: &mut Locked<Q>) -> Event {
-        if self.server.resumes(state) {
+        if self.leaves() {
+            Event::Refused
+        } else if self.server.resumes(state) {
             Event::Resumed { another: self.server.has_answered(state) }
         } else {
             Event::NoneResumed
@@ -210,7 +221,8 @@ impl<'l, 's, Q: Queued, S: Server<Q>> Thread<'l, 's, Q, S> {
                 self.missing = Some((state.next_chain(), false));
                 Event::Later
             }
-            Err(Status::ChainInFlight) => Event::Full,
+            Err(Status::ChainInFlight) if state.is_full() => Event::Full,
+            Err(Status::ChainInFlight) => Event::Paused,
             Err(status) if status.is_out_of_memory() => Event::Later,
             Err(status) => {
                 self.server.refuse(state, status);
