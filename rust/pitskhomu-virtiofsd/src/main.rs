@@ -14,6 +14,7 @@ mod serve;
 mod signals;
 mod socket;
 mod start;
+mod starter;
 mod state;
 mod system_calls;
 
@@ -21,6 +22,8 @@ use clap::Parser;
 use logger::Logger;
 use options::Options;
 use pitskhomu_vhost_user::{front_end, iommu, memory, notifier, ring};
+use starter::Process;
+use std::fs::File;
 use std::process::ExitCode;
 
 /// The output of --print-capabilities (vhost-user.json of QEMU's interop documents).
@@ -39,6 +42,21 @@ fn main() -> ExitCode {
         println!("{CAPABILITIES}");
         return ExitCode::SUCCESS;
     }
+    if !options.detach {
+        return serve(options, None);
+    }
+    match starter::detach() {
+        Ok(Process::Started(status)) => status,
+        Ok(Process::Daemon(foreground)) => serve(options, Some(foreground)),
+        Err(e) => {
+            eprintln!("pitskhomu-virtiofsd: --detach: {e}");
+            ExitCode::FAILURE
+        }
+    }
+}
+
+/// Serves with these options. A process in the foreground waits until then, if there is one.
+fn serve(options: Options, foreground: Option<File>) -> ExitCode {
     let logger = match Logger::new(&options) {
         Ok(logger) => logger,
         Err(why) => {
@@ -46,7 +64,7 @@ fn main() -> ExitCode {
             return ExitCode::FAILURE;
         }
     };
-    let ended = start::run(options, &logger);
+    let ended = start::run(options, foreground, &logger);
     if let Err(why) = &ended {
         log::error!("{why}");
     }

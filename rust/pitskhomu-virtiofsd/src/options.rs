@@ -85,6 +85,13 @@ pub struct Options {
     /// fails, the old daemon continues, and this one ends with status 1.
     #[arg(long)]
     pub take_over: Option<PathBuf>,
+    /// With --take-over: continue in the background
+    ///
+    /// The process that was started ends once the new daemon serves, with status 0, or with status
+    /// 1 if the old one continues. So a script, or ExecReload= of systemd, knows when the old
+    /// daemon is replaced. systemd is told the new daemon's process number (MAINPID=).
+    #[arg(long, requires = "take_over")]
+    pub detach: bool,
     /// The tag that front-ends may ask for
     ///
     /// A tag has 1 to 36 bytes of UTF-8. Only with this option the daemon offers

@@ -17,6 +17,9 @@
 //! enabled. Before GO any failure, or the death of the new one, has the old one enable its rings
 //! again.
 //!
+//! If no front-end has connected yet, step 4 follows READY at once, with the socket that a
+//! front-end will connect to.
+//!
 //! No kick is lost: no daemon reads the counter of the driver's event, and a ring that is enabled
 //! looks for chains. An interrupt may be owed, so the new one interrupts each driver once. Messages
 //! of the front-end wait in its socket meanwhile.
@@ -63,6 +66,9 @@ impl Own {
 
 /// How long the new daemon has for all its answers before the pause, and for those of the pause.
 const PATIENCE: Duration = Duration::from_secs(1);
+/// How long the old daemon waits, when it serves no more, until the new one has told systemd which
+/// process serves. systemd ends a service with its main process.
+const LAST_PATIENCE: Duration = Duration::from_secs(5);
 /// A state takes longer by this for each of so many bytes.
 const PATIENCE_BYTES: u64 = 1 << 20;
 /// How long the guest's state may be prepared, while the guest runs.

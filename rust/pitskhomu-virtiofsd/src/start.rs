@@ -13,13 +13,14 @@ use crate::replace::{self, Control, Old, Record, Turn, Turns};
 use crate::serve::{Core, OfVirtiofsd, QueueWorker, ServedFs, Shared};
 use crate::signals;
 use crate::socket::Socket;
+use crate::starter::Starter;
 use crate::state;
 use crate::system_calls;
 use log::{debug, error, info, warn, Level};
 use std::error::Error;
 use std::fs::{self, File};
 use std::io;
-use std::os::fd::{AsFd, AsRawFd, FromRawFd};
+use std::os::fd::{AsFd, AsRawFd, FromRawFd, IntoRawFd};
 use std::os::unix::net::UnixStream;
 use std::path::Path;
 use std::sync::mpsc::{channel, Sender};
@@ -193,8 +194,9 @@ fn shared_dir(options: &mut Options) -> Result<String, Failure> {
 
 /// Serves the directory with these options, and returns when the front-end has disconnected, or
 /// another daemon serves it.
-pub fn run(mut options: Options, logger: &Logger) -> Result<(), Failure> {
+pub fn run(mut options: Options, foreground: Option<File>, logger: &Logger) -> Result<(), Failure> {
     signals::handle();
+    let starter = Starter::new(foreground);
     log_build();
     let shared_dir = shared_dir(&mut options)?;
     let capabilities = capabilities::Changes::new(&options)?;
@@ -207,7 +209,7 @@ pub fn run(mut options: Options, logger: &Logger) -> Result<(), Failure> {
     let mut sandbox = sandboxed.map_err(|e| format!("Error creating sandbox: {e}"))?;
     let scratch = state::scratch()?;
     let Socket { listener, number } = Socket::open(&options)?;
-    let mut control = Control::new(&options, Path::new(&shared_dir), (record, number))?;
+    let mut control = Control::new(&options, Path::new(&shared_dir), (record, number), starter)?;
     let mut asked = numbers::Asked::new(options.metrics.as_deref())?;
     let listener = sandbox
         .enter(listener)
@@ -296,16 +298,16 @@ impl Serving {
         start_threads(&core)?;
         let front_end = FrontEnd::new(core.clone(), self.tag)?;
         let front_end = Arc::new(Mutex::new(front_end));
-        let (handler, old) = if self.takes_over {
-            let handler = connection(self.listener, front_end.clone());
-            let old = Old::say_ready(handler.as_raw_fd(), &self.control.record)?;
-            (handler, Some(old))
-        } else {
-            (accept(self.listener, front_end.clone(), &self.control)?, None)
+        let (mut listener, mut control) = (self.listener, self.control);
+        let old = if self.takes_over { call(&mut listener, &mut control)? } else { None };
+        let accepted = match old {
+            Some(_) => Some(connection(listener, front_end.clone())),
+            None => accept(listener, front_end.clone(), &mut control)?,
         };
+        let Some(handler) = accepted else { return Ok(()) };
         let socket = handler.as_raw_fd();
         front_end.lock().unwrap_or_else(PoisonError::into_inner).connect(socket)?;
-        let mut turns = Turns::new(&front_end, self.control, socket, old)?;
+        let mut turns = Turns::new(&front_end, control, socket, old)?;
         let ended = answer(handler, &core, &mut turns);
         if !turns.serves() {
             return ended.and(Err("the old daemon has left".into()));
@@ -327,14 +329,30 @@ fn connection<F: ServedFs>(
     BackendReqHandler::from_stream(unsafe { UnixStream::from_raw_fd(fd) }, front_end)
 }
 
-/// Waits for the front-end. A second one can't connect.
+/// Says to the daemon that this one takes over from that it is ready. If no front-end is connected
+/// yet, this daemon has taken over, and the listener is the one where a front-end will connect.
+fn call(listener: &mut Listener, control: &mut Control) -> Result<Option<Old>, Failure> {
+    let old = Old::say_ready(listener.as_raw_fd(), &control.record)?;
+    let socket = old.first(control).map_err(|e| format!("the other daemon continues: {e}"))?;
+    let Some(socket) = socket else { return Ok(Some(old)) };
+    info!("the socket is taken over from another daemon");
+    // SAFETY: the descriptor is open, and the listener owns it from here on.
+    *listener = unsafe { Listener::from_raw_fd(socket.into_raw_fd()) };
+    Ok(None)
+}
+
+/// Waits for the front-end. A second one can't connect. `None` if another daemon waits there.
 fn accept<F: ServedFs>(
     listener: Listener,
     front_end: Arc<Mutex<FrontEnd<F>>>,
-    control: &Control,
-) -> Result<BackendReqHandler<Mutex<FrontEnd<F>>>, Failure> {
+    control: &mut Control,
+) -> Result<Option<BackendReqHandler<Mutex<FrontEnd<F>>>>, Failure> {
     info!("Waiting for vhost-user socket connection...");
-    replace::wait_for_front_end(listener.as_raw_fd(), control)?;
+    control.starter.serves();
+    if replace::wait_for_front_end(listener.as_raw_fd(), control)? == Turn::Replaced {
+        info!("another daemon waits for the connection");
+        return Ok(None);
+    }
     let mut listener = BackendListener::new(listener, front_end)?;
     let handler = loop {
         if let Some(handler) = listener.accept()? {
@@ -342,7 +360,7 @@ fn accept<F: ServedFs>(
         }
     };
     info!("Client connected, servicing requests");
-    Ok(handler)
+    Ok(Some(handler))
 }
 
 /// The message for a thread that can't start. The system gives one error for several limits.

@@ -14,6 +14,7 @@ pub type Listed = BTreeMap<String, String>;
 const FREE: &[&str] = &[
     "control-socket",
     "debug",
+    "detach",
     "fd",
     "foreground",
     "inode-file-handles",

@@ -1,7 +1,9 @@
 //! The control socket, which is made before the sandbox, and what else goes from daemon to daemon.
 use super::Record;
 use crate::options::Options;
+use crate::starter::Starter;
 use crate::state;
+use log::warn;
 use std::fs::{self, File};
 use std::io::{self, Seek, Write};
 use std::mem::size_of;
@@ -23,6 +25,8 @@ pub struct Control {
     pub number: Option<File>,
     /// The number of the process that was started, for the PID file.
     pid: u32,
+    /// Those who wait until this daemon serves.
+    pub starter: Starter,
     /// The user that may replace the daemon: its own, as the sandbox has it.
     pub user: u32,
     /// What the daemon says of itself.
@@ -117,6 +121,7 @@ impl Control {
         options: &Options,
         directory: &Path,
         (record, number): (Record, Option<File>),
+        starter: Starter,
     ) -> Result<Control, String> {
         let path = options.control_socket.as_deref();
         let listener = match (path, &options.take_over) {
@@ -132,7 +137,7 @@ impl Control {
         let pipe = state::scratch().map_err(|e| format!("a file in memory: {e}"))?;
         let (pid, user, life) = (std::process::id(), 0, None);
         let may_lose = options.migration_on_error == MigrationOnError::GuestError;
-        Ok(Control { listener, number, pid, user, record, may_lose, pipe, life })
+        Ok(Control { listener, number, pid, starter, user, record, may_lose, pipe, life })
     }
 
     /// The daemon is in its sandbox, where its user may have another number. The process that waits
@@ -145,11 +150,20 @@ impl Control {
     }
 
     /// Writes this daemon's number to the PID file.
-    pub fn write_number(&mut self) -> io::Result<()> {
+    fn write_number(&mut self) -> io::Result<()> {
         let Some(number) = &mut self.number else { return Ok(()) };
         number.set_len(0)?;
         number.rewind()?;
         writeln!(number, "{}", self.pid)
+    }
+
+    /// This daemon has taken over from another: the control socket and the PID file are its own
+    /// from here on.
+    pub fn adopt(&mut self, listener: Option<OwnedFd>, number: Option<OwnedFd>) {
+        (self.listener, self.number) = (listener, number.map(Into::into));
+        if let Err(e) = self.write_number() {
+            warn!("the PID file has the old daemon's number: {e}");
+        }
     }
 }
 

@@ -32,6 +32,22 @@ impl Old {
         Ok(Old(socket))
     }
 
+    /// Waits for the first message. If no front-end is connected yet, this daemon has taken over
+    /// then: this is the socket that a front-end will connect to.
+    pub fn first(self, control: &mut Control) -> io::Result<Option<OwnedFd>> {
+        if !self.offers()? {
+            return Ok(None);
+        }
+        let offer = Offer::receive(self.0)?;
+        if offer.take.with & Take::LISTENER == 0 {
+            return Err(io::Error::other("TAKE of a front-end without its messages"));
+        }
+        confirm(self.0, offer.life.as_ref())?;
+        control.adopt(offer.listener, offer.number);
+        control.starter.serves();
+        Ok(Some(offer.socket))
+    }
+
     /// Waits for the next message. `false` if it is a front-end's, which is left there. Else this
     /// daemon has taken over, and the connection is the front-end's own.
     pub fn next<F: ServedFs>(
@@ -39,13 +55,23 @@ impl Old {
         front_end: &mut FrontEnd<F>,
         control: &mut Control,
     ) -> io::Result<bool> {
+        let offers = self.offers()?;
+        if offers {
+            self.take(front_end, control)?;
+        }
+        Ok(offers)
+    }
+
+    /// Waits for the next message, which is left there. Whether it is TAKE; else it is a
+    /// front-end's. An error if the old daemon has refused this one.
+    fn offers(self) -> io::Result<bool> {
         let mut head = [0; HEAD_LEN];
         let peeked = messages::receive(self.0, &mut [IoSliceMut::new(&mut head)], libc::MSG_PEEK)?;
         if peeked == 0 {
             return Err(io::Error::other("the old daemon has ended or left"));
         }
         match (peeked, Own::of(Head::of(&head).request)) {
-            (HEAD_LEN, Some(Own::Take)) => self.take(front_end, control).map(|()| true),
+            (HEAD_LEN, Some(Own::Take)) => Ok(true),
             (HEAD_LEN, Some(Own::Refused)) => match word(self.0)? {
                 Word::Refused(why) => Err(io::Error::other(why)),
                 _ => Err(io::Error::other("the old daemon has left")),
@@ -59,36 +85,15 @@ impl Old {
         front_end: &mut FrontEnd<F>,
         control: &mut Control,
     ) -> io::Result<()> {
-        let mut bytes = [0; HEAD_LEN + Take::LEN];
-        let received = receive(self.0, &mut bytes, 0)?;
-        let words: &[u8; Take::LEN] = bytes[HEAD_LEN..].try_into().map_err(io::Error::other)?;
-        let (take, mut fds) = (Take::of(words), received.fds.into_iter());
-        let mut sent = |is_sent: bool| if is_sent { fds.next() } else { None };
-        let socket = sent(received.len == bytes.len());
-        let socket = socket.ok_or_else(|| io::Error::other("TAKE without the front-end"))?;
-        let [listener, number, channel, life] =
-            [Take::CONTROL, Take::NUMBER, Take::CHANNEL, Take::LIFE]
-                .map(|bit| sent(take.with & bit != 0));
+        let Offer { take, socket, listener, number, channel, life } = Offer::receive(self.0)?;
+        if take.with & Take::LISTENER != 0 {
+            return Err(io::Error::other("TAKE of a listener behind a front-end's messages"));
+        }
         let old = replace(self.0, &socket)?;
         drop(socket);
         front_end.connect(self.0)?;
-        send(
-            old.as_raw_fd(),
-            &Head { request: Own::Taken as u32, flags: 0, size: 0 }.bytes(),
-            &[],
-        )?;
-        match word(old.as_raw_fd())? {
-            Word::Go => {}
-            Word::None if life.is_some_and(|life| has_ended(&life)) => {
-                warn!("the old daemon died, and this one serves");
-            }
-            Word::None => return Err(io::Error::other("the connection has ended")),
-            Word::Refused(why) => return Err(io::Error::other(why)),
-        }
-        (control.listener, control.number) = (listener, number.map(Into::into));
-        if let Err(e) = control.write_number() {
-            warn!("the PID file has the old daemon's number: {e}");
-        }
+        confirm(old.as_raw_fd(), life.as_ref())?;
+        control.adopt(listener, number);
         if let Some(channel) = channel {
             #[allow(clippy::cast_possible_truncation, reason = "there are few")]
             let unanswered = take.unanswered as usize;
@@ -98,7 +103,54 @@ impl Old {
             }
         }
         front_end.adopt(take.enabled, take.refused);
+        control.starter.serves(); // the old daemon ends after this
         Ok(())
+    }
+}
+
+/// What comes with TAKE.
+struct Offer {
+    take: Take,
+    /// The front-end's, or the one that a front-end will connect to.
+    socket: OwnedFd,
+    /// The control socket.
+    listener: Option<OwnedFd>,
+    /// The PID file.
+    number: Option<OwnedFd>,
+    /// The back-end's channel.
+    channel: Option<OwnedFd>,
+    /// A pipe that ends when the old daemon dies.
+    life: Option<OwnedFd>,
+}
+
+impl Offer {
+    fn receive(socket: RawFd) -> io::Result<Offer> {
+        let mut bytes = [0; HEAD_LEN + Take::LEN];
+        let received = receive(socket, &mut bytes, 0)?;
+        let words: &[u8; Take::LEN] = bytes[HEAD_LEN..].try_into().map_err(io::Error::other)?;
+        let (take, mut fds) = (Take::of(words), received.fds.into_iter());
+        let mut sent = |is_sent: bool| if is_sent { fds.next() } else { None };
+        let socket = sent(received.len == bytes.len());
+        let socket = socket.ok_or_else(|| io::Error::other("TAKE without the front-end"))?;
+        let [listener, number, channel, life] =
+            [Take::CONTROL, Take::NUMBER, Take::CHANNEL, Take::LIFE]
+                .map(|bit| sent(take.with & bit != 0));
+        Ok(Offer { take, socket, listener, number, channel, life })
+    }
+}
+
+/// Says that this daemon has all that it needs, and waits until the old one decides: after `Ok`
+/// this one serves.
+fn confirm(old: RawFd, life: Option<&OwnedFd>) -> io::Result<()> {
+    send(old, &Head { request: Own::Taken as u32, flags: 0, size: 0 }.bytes(), &[])?;
+    match word(old)? {
+        Word::Go => Ok(()),
+        Word::None if life.is_some_and(has_ended) => {
+            warn!("the old daemon died, and this one serves");
+            Ok(())
+        }
+        Word::None => Err(io::Error::other("the connection has ended")),
+        Word::Refused(why) => Err(io::Error::other(why)),
     }
 }
 

@@ -2,7 +2,7 @@
 //! and continues.
 use super::successor::Successor;
 use super::take::Take;
-use super::{Control, PATIENCE, PATIENCE_BYTES};
+use super::{Control, LAST_PATIENCE, PATIENCE, PATIENCE_BYTES};
 use crate::front_end::{Agreed, FrontEnd};
 use crate::memory::Table;
 use crate::ring::{Handed, Ring};
@@ -114,7 +114,7 @@ impl<'g, F: ServedFs> Giving<'g, F> {
         let ms = |from: Instant, to: Instant| (to - from).as_secs_f64() * 1e3;
         let (paused, told) = (ms(stops, Instant::now()), ms(begun, stops));
         info!("another daemon serves the guest: {told:.1} ms of messages, {paused:.1} ms of pause");
-        self.to.set_end(Instant::now() + PATIENCE);
+        self.to.set_end(Instant::now() + LAST_PATIENCE);
         self.to.wait_for_end();
         Ok(())
     }
@@ -256,7 +256,6 @@ impl<'g, F: ServedFs> Giving<'g, F> {
     /// Offers all that the front-end must not see close.
     fn offer(&mut self) -> io::Result<()> {
         let mut take = Take::default();
-        let mut fds = vec![self.socket];
         for (index, ring) in self.core.rings.iter().enumerate() {
             take.enabled |= u64::from(self.rings[index].is_enabled) << index;
             take.refused |= u64::from(ring.handed()?.is_refused) << index;
@@ -264,18 +263,48 @@ impl<'g, F: ServedFs> Giving<'g, F> {
         let channel = self.core.memory().iommu().channel.lend()?;
         let (socket, unanswered) = channel.unzip();
         take.unanswered = unanswered.unwrap_or(0) as u64;
-        for (fd, bit) in [
-            (self.control.listener.as_ref().map(AsRawFd::as_raw_fd), Take::CONTROL),
-            (self.control.number.as_ref().map(AsRawFd::as_raw_fd), Take::NUMBER),
-            (socket.as_ref().map(AsRawFd::as_raw_fd), Take::CHANNEL),
-            (self.control.life.as_ref().map(|(reader, _)| reader.as_raw_fd()), Take::LIFE),
-        ] {
-            if let Some(fd) = fd {
-                fds.push(fd);
-                take.with |= bit;
-            }
+        let channel = socket.as_ref().map(AsRawFd::as_raw_fd);
+        offer(&mut self.to, take, (self.socket, channel), self.control)
+    }
+}
+
+/// Offers a socket, and all that a daemon has besides the guest's state.
+fn offer(
+    to: &mut Successor,
+    mut take: Take,
+    (socket, channel): (RawFd, Option<RawFd>),
+    control: &Control,
+) -> io::Result<()> {
+    let mut fds = vec![socket];
+    for (fd, bit) in [
+        (control.listener.as_ref().map(AsRawFd::as_raw_fd), Take::CONTROL),
+        (control.number.as_ref().map(AsRawFd::as_raw_fd), Take::NUMBER),
+        (channel, Take::CHANNEL),
+        (control.life.as_ref().map(|(reader, _)| reader.as_raw_fd()), Take::LIFE),
+    ] {
+        if let Some(fd) = fd {
+            fds.push(fd);
+            take.with |= bit;
         }
-        self.to.set_end(Instant::now() + PATIENCE);
-        self.to.offer(&take.words(), &fds)
+    }
+    to.set_end(Instant::now() + PATIENCE);
+    to.offer(&take.words(), &fds)
+}
+
+/// Gives the socket that a front-end will connect to, since none has yet. After `Ok` this daemon
+/// may only end.
+pub fn give_listener(listener: RawFd, control: &Control, heir: OwnedFd) -> io::Result<()> {
+    let mut to = Successor::new(heir, Instant::now() + PATIENCE)?;
+    let take = Take { with: Take::LISTENER, ..Take::default() };
+    match offer(&mut to, take, (listener, None), control).and_then(|()| to.go()) {
+        Ok(()) => {
+            to.set_end(Instant::now() + LAST_PATIENCE);
+            to.wait_for_end();
+            Ok(())
+        }
+        Err(e) => {
+            to.refuse(&e.to_string());
+            Err(e)
+        }
     }
 }

@@ -1,6 +1,6 @@
 //! The turns of the front-end's thread: messages of the front-end, and those of daemons that take
 //! over.
-use super::old::{give, refuse, Kept};
+use super::old::{give, give_listener, refuse, Kept};
 use super::{Control, Next, Old, Record, Waits, PAUSE, TRIES};
 use crate::front_end::FrontEnd;
 use crate::serve::ServedFs;
@@ -12,7 +12,7 @@ use std::sync::{Mutex, MutexGuard, PoisonError};
 /// What the thread does next.
 #[derive(Debug, PartialEq, Eq)]
 pub enum Turn {
-    /// It reads the front-end's next message.
+    /// It reads the front-end's next message, or lets a front-end connect.
     Message,
     /// It ends: another daemon serves.
     Replaced,
@@ -171,17 +171,25 @@ impl<'t, F: ServedFs> Turns<'t, F> {
     }
 }
 
-/// Waits until a front-end connects to this listener. Meanwhile no other daemon can take over.
-pub fn wait_for_front_end(listener: RawFd, control: &Control) -> io::Result<()> {
-    let Some(mut waits) = Waits::new(control, listener, None)? else { return Ok(()) };
+/// Waits until a front-end connects to this listener, or another daemon has taken the listener over
+/// and waits there.
+pub fn wait_for_front_end(listener: RawFd, control: &Control) -> io::Result<Turn> {
+    let Some(mut waits) = Waits::new(control, listener, None)? else { return Ok(Turn::Message) };
     loop {
         match waits.next()? {
-            Next::FrontEnd => return Ok(()),
-            Next::Ready(socket, _) => {
-                let why = "no front-end is connected yet: end this daemon, and start another";
-                warn!("a daemon that would take over is refused: {why}");
-                refuse(socket, why);
-            }
+            Next::FrontEnd => return Ok(Turn::Message),
+            Next::Ready(heir, record) => match control.record.refuses(&record) {
+                Some(why) => {
+                    warn!("a daemon that would take over is refused: {why}");
+                    refuse(heir, &why);
+                }
+                None => match give_listener(listener, control, heir) {
+                    Ok(()) => return Ok(Turn::Replaced),
+                    Err(why) => {
+                        warn!("a daemon doesn't take over, and this one continues: {why}");
+                    }
+                },
+            },
             Next::Prepared | Next::Left | Next::Late => {}
         }
     }

@@ -17,6 +17,7 @@ import logs
 import metrics
 import paths
 import pauses
+import reloaded
 import replaced
 from rows import may_sandbox
 
@@ -51,7 +52,7 @@ def main():
     signal.signal(signal.SIGIO, lambda *_: None) # of leases
     programs = [[shutil.which(words[0]), *words[1:]] for words in (sys.argv[1:2], sys.argv[2:])
         if words]
-    parts = (pauses, replaced, ends, limits, logs, metrics, paths)
+    parts = (pauses, replaced, reloaded, ends, limits, logs, metrics, paths)
     rows = [row for part in parts for row in part.rows()
         if os.environ.get("ROWS", "") in row.name]
     if not may_sandbox():

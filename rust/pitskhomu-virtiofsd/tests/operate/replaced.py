@@ -21,12 +21,12 @@ def with_control(daemon, program, options, _more):
 class New(Daemon):
     """A daemon that takes over from another."""
 
-    def __init__(self, program, old): # pylint: disable=super-init-not-called
+    def __init__(self, program, old, *options): # pylint: disable=super-init-not-called
         self.folder, self.log, self.fronts = old.folder + "/new", old.log, []
         words = [*program, f"--take-over={old.folder}/control", f"--shared-dir={old.shared}"]
         with open(self.log, "a", encoding="utf-8") as log:
-            self.process = subprocess.Popen([*words, *OPTIONS], stdin=subprocess.DEVNULL,
-                stdout=log, stderr=log, start_new_session=True)
+            self.process = subprocess.Popen([*words, *(options or OPTIONS)],
+                stdin=subprocess.DEVNULL, stdout=log, stderr=log, start_new_session=True)
 
 
 def one_ends(old, new):
