@@ -1,12 +1,13 @@
 """The sums of believed.txt: one for each definition of specs/, each type with its model, each trait
-and each contract of a public function, of its text without comments and spaces, and of what the
-names in it mean. So the order of imports, and those that aren't used, don't count."""
+with what its implementations say, and each contract of a public function, of its text without
+comments and spaces, and of what the names in it mean. So the order of imports, and those that
+aren't used, don't count."""
 import functools
 import hashlib
 import re
 from pathlib import PurePath
 
-from terms import TOP, UNCOUNTED, module, source, words
+from terms import TOP, UNCOUNTED, end_of_braces, module, source, words
 
 PINNED = "believed.txt"
 HEAD = """\
@@ -47,9 +48,10 @@ def means_in_specs(here, word):
 
 
 def means_in_code(here, word):
-    """The items that a word of a contract or a type may mean."""
+    """The items that a word of a contract or a type may mean, and constants with their values."""
     found = {here.resolve(word)}
-    found |= {here.kind(name) for name in re.findall(r"\w+", word)}
+    for name in re.findall(r"\w+", word):
+        found |= {here.kind(name), here.constant(name)}
     return sorted(found - {None})
 
 
@@ -59,9 +61,11 @@ def definitions(path):
     crate, inner = place(path, "definition")
     lines = (TOP / path).read_text(encoding="utf-8").split("\n")
     for name, (first, last, shared) in here.blocks.items():
-        # How an operator binds may be said elsewhere in the file.
-        binds = [line for line in lines[:first] + lines[last + 1:]
-            if re.match(r"\s*infix", line) and f"◌{name}◌" in line]
+        # How an operator binds may be said elsewhere in the file, also of an imported one.
+        own = "\n".join(lines[first:last + 1])
+        binds = [line for line in lines[:first] + lines[last + 1:] if re.match(r"\s*infix", line)
+            and any(f" {operator} " in own for operator in re.findall(r"◌(\S+?)◌", line))
+            or f"◌{name}◌" in line and re.match(r"\s*infix", line)]
         text = "\n".join([shared, *binds, *lines[first:last + 1]])
         yield ("definition", path, name), crate, inner + name, sum_of(text, "antt",
             functools.partial(means_in_specs, here))
@@ -77,6 +81,42 @@ def types(path):
             functools.partial(means_in_code, here))
 
 
+def instances(path):
+    """What the implementations of traits in a file say of the traits' ghosts, but for proofs: the
+    ghosts whose type in the trait begins with a premise."""
+    here = source(path)
+    crate, inner = place(path, "instance")
+    for at, line in enumerate(here.lines):
+        owner = head_of(here, at) if line.startswith("impl") else ""
+        if " for " not in owner or re.search(r"\bModel for ", owner):
+            continue
+        trait = re.match(r"impl(?:<.*?>)? (?:\w+::)*(\w+)", owner)[1]
+        block = "\n".join(here.lines[at:here.lines.index("}", at)]) + "\n"
+        said = [block[ghost.start():end_of_braces(block, ghost.end())]
+            for ghost in re.finditer(r"^    ghost (\w+) = \{", block, re.M)
+            if not is_proof(here, trait, ghost[1])]
+        said += re.findall(r"^    (?:type \w+ = .*|ghost use .*);$", block, re.M) if said else []
+        if said:
+            kind = here.kind(re.split(r" for &?", owner)[-1].split("<")[0].strip(" {"))
+            yield (kind or ("instance", path, owner), crate, inner + of_owner(owner) + "ghosts",
+                sum_of("\n".join([owner, *said]), "rt", functools.partial(means_in_code, here)))
+
+
+def is_proof(here, trait, ghost):
+    """Whether a ghost of a trait of this repository is a proof."""
+    kind = here.kind(trait)
+    if not kind:
+        return False
+    declared = "\n".join(source(kind[1]).text(block) for block in source(kind[1]).blocks(trait))
+    return bool(re.search(rf"ghost {ghost}: \{{\s*\(", declared))
+
+
+def head_of(here, at):
+    """The head of a block of code, which may have several lines."""
+    end = next(end for end in range(at, len(here.lines)) if here.lines[end].endswith(("{", "}")))
+    return " ".join(line.strip() for line in here.lines[at:end + 1])
+
+
 def contracts(path):
     """The contracts of a file: of public functions, and of methods of a trait's implementation."""
     here = source(path)
@@ -84,7 +124,7 @@ def contracts(path):
     owner, found = "", {}
     for at, line in enumerate(here.lines):
         if re.match(r"\S", line):
-            owner = line if line.startswith("impl") else ""
+            owner = head_of(here, at) if line.startswith("impl") else ""
         head = FUNCTION.match(line)
         if head and (head[2] or " for " in owner):
             text = owner * bool(head[1]) + "\n" + here.head(at, head[1])
@@ -111,7 +151,7 @@ def rows(headlines):
         if re.search(r"/specs/.*\.antt$", path) and not UNCOUNTED.search(path):
             kinds = [definitions]
         elif re.search(r"/src/.*\.rt$", path):
-            kinds = [types, contracts]
+            kinds = [types, instances, contracts]
         for kind in kinds:
             for item, crate, name, digest in kind(path):
                 found.add(f"{crate} {name} {','.join(headlines.get(item, ())) or '-'} {digest}")

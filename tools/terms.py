@@ -187,12 +187,12 @@ class Source:
 
     @functools.cached_property
     def declared(self):
-        """Where each type and trait is declared, and each model: first and last line, with what is
-        written above."""
+        """Where each type, trait and alias is declared, and each model: first and last line, with
+        what is written above."""
         found = {}
         for at, line in enumerate(self.lines):
             begun = re.match(
-                r"(?:pub(?:\(crate\))? )?(struct|enum|trait) (\w+)|(impl)\b.* Model for (\w+)",
+                r"(?:pub(?:\(crate\))? )?(struct|enum|trait|type) (\w+)|(impl)\b.* Model for (\w+)",
                 line)
             if begun:
                 last = at if line.endswith((";", "}")) else self.lines.index("}", at)
@@ -203,7 +203,7 @@ class Source:
 
     def blocks(self, name):
         """The declaration of a type or a trait, and the type's model."""
-        return [self.declared[kind, name] for kind in ("struct", "enum", "trait", "model")
+        return [self.declared[kind, name] for kind in ("struct", "enum", "trait", "type", "model")
             if (kind, name) in self.declared]
 
     def text(self, block):
@@ -226,6 +226,15 @@ class Source:
         if self.blocks(name):
             return ("type", self.path, name)
         return of_path(self.crate, self.uses[name]) if name in self.uses else None
+
+    def constant(self, name):
+        """The declaration of a constant of the code."""
+        found = re.search(rf"^(?:pub(?:\(crate\))? )?const ({name}: [^;]*);", "\n".join(self.lines),
+            flags=re.M) if name.isupper() else None
+        if found:
+            return ("constant", found[1])
+        file = name.isupper() and name in self.uses and file_of(self.crate, self.uses[name])
+        return source(file).constant(name) if file and file != self.path else None
 
     def cited(self, clauses, code):
         """What clauses and code cite; a trait is what its implementers promise, and isn't
@@ -328,12 +337,18 @@ def named(where, name):
 
 def of_path(crate, path):
     """The type of a path in a crate's code, if it is of this repository."""
+    file = file_of(crate, path)
+    return source(file).kind(path[-1]) if file else None
+
+
+def file_of(crate, path):
+    """The file of a path in a crate's code, if it is of this repository."""
     first, *others = path
     if first == "crate":
-        return of_path(crate, others)
+        return file_of(crate, others)
     if not others:
-        return source(f"crates/{crate}/src/lib.rt").kind(first)
+        return f"crates/{crate}/src/lib.rt"
     file = f"crates/{crate}/src/{'/'.join(path[:-1])}.rt"
     if (TOP / file).exists():
-        return source(file).kind(path[-1])
-    return of_path(first, others) if (TOP / "crates" / first).exists() else None
+        return file
+    return file_of(first, others) if (TOP / "crates" / first).exists() else None
