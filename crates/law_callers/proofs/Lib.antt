@@ -1,3 +1,4 @@
 pub mod Results
+pub mod Serving
 pub mod Steps
 pub mod TinyRun

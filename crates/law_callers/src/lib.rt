@@ -6,4 +6,5 @@ pub mod machine;
 pub mod reads;
 pub mod shared;
 pub mod tables;
+pub mod turns;
 pub mod walks;
