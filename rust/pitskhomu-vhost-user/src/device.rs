@@ -9,35 +9,57 @@ use crate::pipe::Pipe;
 use crate::ring::{Patience, Ring, Server, LAST_CHAINS};
 use log::{debug, error};
 use pitskhomu::live::Asked;
-use pitskhomu::{Cancelled, Popped as Taken, Queue, Status};
+use pitskhomu::{Cancelled, Popped as Taken, Queue, Status, Worker};
 use std::collections::BTreeSet;
 use std::io;
 use std::panic::{catch_unwind, AssertUnwindSafe};
 use std::sync::atomic::{AtomicBool, AtomicUsize, Ordering};
 use std::sync::mpsc::{sync_channel, Receiver, SyncSender};
-use std::sync::{Arc, OnceLock, PoisonError, RwLock};
+use std::sync::{Arc, Condvar, Mutex, OnceLock, PoisonError, RwLock};
+use std::task::Wake;
 use std::thread;
 use std::time::{Duration, Instant};
 
 /// The time between two looks whether a call has ended.
 const A_MOMENT: Duration = Duration::from_millis(10);
+/// The same between two looks of a thread that waits for its answer, which wakes it.
+const LONGER: Duration = Duration::from_millis(50);
 
 /// A file system with all that a device needs: its calls for each chain, the end of a session, and
 /// its state, which moves with the guest.
 pub trait ServedFs: Send + Sync + 'static {
-    /// The file system for one chain.
-    type ForChain<'c>: pitskhomu::FileSystem;
+    /// Makes the reply of a chain that was popped by this worker. If it panics it is called once
+    /// more, and the answer is EIO then.
+    ///
+    /// # Errors
+    /// Those of [`Worker::answer`].
+    fn answer(
+        &self,
+        worker: &mut Worker,
+        device: &pitskhomu::Device,
+        chain: Chain<'_>,
+    ) -> Result<(), Status>;
 
-    /// The file system for a chain.
-    fn for_chain<'c>(&'c self, chain: Chain<'c>) -> Self::ForChain<'c>;
+    /// An answer that the guest doesn't get is to be undone.
+    fn cancelled(&self, cancelled: &Cancelled, chain: Chain<'_>);
 
     /// Ends a session without DESTROY: no node is held, and no file is open.
     fn destroy(&self);
 
+    /// Whether the state moves to another device. If not, the front-end refuses a migration.
+    fn moves(&self) -> bool {
+        true
+    }
+
     /// Prepares the state while the guest runs, until it is prepared or that is cancelled.
     fn prepare_state(&self, is_cancelled: Arc<AtomicBool>);
 
-    /// Sends the prepared state with the device's record (`Device::save`). The rings are stopped.
+    /// Sends the prepared state with the device's record ([`Device::save`]). The rings are stopped.
+    ///
+    /// # Errors
+    /// Any ends the migration, and the guest continues here.
+    ///
+    /// [`Device::save`]: pitskhomu::Device::save
     fn save_state(
         &self,
         device: &pitskhomu::Device,
@@ -46,7 +68,32 @@ pub trait ServedFs: Send + Sync + 'static {
     ) -> io::Result<()>;
 
     /// Receives a state, and sets the device's options. The rings are stopped.
+    ///
+    /// # Errors
+    /// Any ends the migration.
     fn load_state(&self, device: &pitskhomu::Device, pipe: Pipe) -> io::Result<()>;
+}
+
+/// Rings when an answer comes by a reply object.
+#[derive(Debug, Default)]
+struct Bell {
+    has_rung: Mutex<bool>,
+    rings: Condvar,
+}
+
+impl Bell {
+    fn wait(&self, time: Duration) {
+        let has_rung = self.has_rung.lock().unwrap_or_else(PoisonError::into_inner);
+        let waited = self.rings.wait_timeout_while(has_rung, time, |has_rung| !*has_rung);
+        *waited.unwrap_or_else(PoisonError::into_inner).0 = false;
+    }
+}
+
+impl Wake for Bell {
+    fn wake(self: Arc<Self>) {
+        *self.has_rung.lock().unwrap_or_else(PoisonError::into_inner) = true;
+        self.rings.notify_one();
+    }
 }
 
 /// A chain in flight, whose call is made.
@@ -57,9 +104,16 @@ pub struct Chain<'c> {
     /// The memory that the chain was taken from.
     memory: &'c Table,
     doing: &'c Doing,
+    bell: &'c Bell,
 }
 
 impl<'c> Chain<'c> {
+    /// The guest's memory.
+    #[must_use]
+    pub fn memory(&self) -> &'c Table {
+        self.memory
+    }
+
     /// Makes a call of the host for the chain. `Err` has the result if the chain was dropped
     /// meanwhile. Until this returns the thread accesses no memory of the guest's.
     pub fn call_host<T>(&self, call: impl FnOnce() -> T) -> Result<T, T> {
@@ -75,6 +129,17 @@ impl<'c> Chain<'c> {
     /// Whether the chain was dropped: nobody gets its reply.
     pub fn is_dropped(&self) -> bool {
         self.doing.is_dropped()
+    }
+
+    /// Waits until an answer by a reply object comes, or a moment.
+    pub(crate) fn wait(&self) {
+        let _ = self.call_host(|| self.bell.wait(LONGER));
+    }
+
+    /// Whether nobody waits for the call any more. After a reset the next session waits for the
+    /// end of INIT and DESTROY.
+    pub(crate) fn is_given_up(&self) -> bool {
+        self.doing.is_dropped() && !self.doing.is_late()
     }
 
     /// Sets the opcode and number of the chain's request, for the log.
@@ -236,7 +301,7 @@ impl<F: ServedFs> Core<F> {
 pub struct QueueWorker<F> {
     core: Arc<Core<F>>,
     index: usize,
-    worker: pitskhomu::Worker,
+    worker: Worker,
     /// The number of the memory whose regions the worker has, and whether its addresses are I/O
     /// addresses.
     told: Option<(u64, bool)>,
@@ -247,16 +312,20 @@ pub struct QueueWorker<F> {
     /// The pages that the front-end refuses to the next pop.
     refused: BTreeSet<u64>,
     counts: Arc<Counts>,
+    bell: Arc<Bell>,
 }
 
 impl<F: ServedFs> QueueWorker<F> {
     /// A worker for the ring with this index.
     pub fn new(core: Arc<Core<F>>, index: usize) -> QueueWorker<F> {
+        let (mut worker, bell) = (Worker::new(), Arc::<Bell>::default());
+        let _ = worker.set_waker(Some(bell.clone().into())); // it has no chain
         QueueWorker {
             counts: core.numbers.of_thread(),
             core,
             index,
-            worker: pitskhomu::Worker::new(),
+            worker,
+            bell,
             told: None,
             cancelled: None,
             is_translated: false,
@@ -324,8 +393,8 @@ impl<F: ServedFs> Server for QueueWorker<F> {
         let begun = numbers::ticks();
         let core = &self.core;
         let ring = &core.rings[self.index];
-        let files = core.fs.for_chain(Chain { ring, memory, doing });
-        let mut answer = || self.worker.answer(&core.device, &files, memory);
+        let chain = Chain { ring, memory, doing, bell: &self.bell };
+        let mut answer = || core.fs.answer(&mut self.worker, &core.device, chain);
         let answered = catch_unwind(AssertUnwindSafe(&mut answer)).or_else(|_| {
             // a daemon's hook logs the panic
             debug!("queue {}: a call panicked, and is answered EIO", self.index);
@@ -372,8 +441,9 @@ impl<F: ServedFs> Server for QueueWorker<F> {
     fn undo(&mut self) {
         if let Some((cancelled, memory)) = self.cancelled.take() {
             let (doing, ring) = (&Doing::dropped(), &self.core.rings[self.index]);
-            let files = self.core.fs.for_chain(Chain { ring, memory: &memory, doing });
-            let _ = catch_unwind(AssertUnwindSafe(|| cancelled.undo(&files)));
+            let chain = Chain { ring, memory: &memory, doing, bell: &self.bell };
+            let undo = || self.core.fs.cancelled(&cancelled, chain);
+            let _ = catch_unwind(AssertUnwindSafe(undo));
         }
     }
 

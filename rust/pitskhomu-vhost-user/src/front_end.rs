@@ -158,7 +158,7 @@ impl<F: ServedFs> VhostUserBackendReqHandlerMut for FrontEnd<F> {
         if features & VhostUserVirtioFeatures::PROTOCOL_FEATURES.bits() == 0 {
             self.enable_all(true, Patience::new());
         }
-        if self.logs() {
+        if self.logs() && self.core.fs.moves() {
             self.migration.prepare();
         } else {
             self.migration.cancel();
@@ -259,14 +259,13 @@ impl<F: ServedFs> VhostUserBackendReqHandlerMut for FrontEnd<F> {
             | VhostUserProtocolFeatures::BACKEND_REQ
             | VhostUserProtocolFeatures::CONFIGURE_MEM_SLOTS
             | VhostUserProtocolFeatures::LOG_SHMFD
-            | VhostUserProtocolFeatures::DEVICE_STATE
             | VhostUserProtocolFeatures::RESET_DEVICE;
-        let config = if self.tag.is_some() {
-            VhostUserProtocolFeatures::CONFIG
-        } else {
-            VhostUserProtocolFeatures::empty()
-        };
-        Ok(features | config)
+        let offered = [
+            (VhostUserProtocolFeatures::CONFIG, self.tag.is_some()),
+            (VhostUserProtocolFeatures::DEVICE_STATE, self.core.fs.moves()),
+        ];
+        let offered = offered.into_iter().filter(|(_, is_offered)| *is_offered);
+        Ok(offered.fold(features, |features, (one, _)| features | one))
     }
 
     fn set_protocol_features(&mut self, features: u64) -> Result<()> {

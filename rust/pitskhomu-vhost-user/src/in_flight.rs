@@ -105,6 +105,11 @@ impl Doing {
         self.is_dropped.load(Ordering::SeqCst)
     }
 
+    /// Whether the dropped chain's call may change the next session.
+    pub fn is_late(&self) -> bool {
+        self.is_late.load(Ordering::SeqCst)
+    }
+
     /// Whether the call that has ended was late. The next look says no.
     pub fn take_late(&self) -> bool {
         self.is_late.swap(false, Ordering::SeqCst)

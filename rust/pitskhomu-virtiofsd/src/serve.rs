@@ -3,9 +3,9 @@ use crate::adapter::Adapter;
 use crate::guest_cache::GuestCache;
 use crate::open_flags::OpenFlags;
 use crate::state;
-use pitskhomu::{Device, Queue};
+use pitskhomu::{Cancelled, Device, Queue, Status, Worker};
 use pitskhomu_vhost_user::device::Chain;
-pub use pitskhomu_vhost_user::device::{Core, QueueWorker, ServedFs};
+pub use pitskhomu_vhost_user::device::{Core, ServedFs};
 use pitskhomu_vhost_user::pipe::Pipe;
 use std::fs::File;
 use std::io;
@@ -31,11 +31,19 @@ pub struct Shared<F> {
     pub scratch: File,
 }
 
-impl<F: OfVirtiofsd> ServedFs for Shared<F> {
-    type ForChain<'c> = Adapter<'c, F>;
-
+impl<F: OfVirtiofsd> Shared<F> {
     fn for_chain<'c>(&'c self, chain: Chain<'c>) -> Adapter<'c, F> {
         Adapter { fs: &self.fs, chain, flags: self.flags, cache: &self.cache }
+    }
+}
+
+impl<F: OfVirtiofsd> ServedFs for Shared<F> {
+    fn answer(&self, worker: &mut Worker, device: &Device, chain: Chain<'_>) -> Result<(), Status> {
+        worker.answer(device, &self.for_chain(chain), chain.memory())
+    }
+
+    fn cancelled(&self, cancelled: &Cancelled, chain: Chain<'_>) {
+        cancelled.undo(&self.for_chain(chain));
     }
 
     fn destroy(&self) {

@@ -3,31 +3,29 @@ use crate::capabilities;
 use crate::fd_table;
 use crate::front_end::FrontEnd;
 use crate::guest_cache::GuestCache;
-use crate::iommu;
 use crate::logger::{self, Logger};
 use crate::numbers;
 use crate::open_flags::OpenFlags;
 use crate::options::Options;
 use crate::paths;
 use crate::replace::{self, Control, Old, Record, Turn, Turns};
-use crate::serve::{Core, OfVirtiofsd, QueueWorker, ServedFs, Shared};
+use crate::serve::{Core, OfVirtiofsd, ServedFs, Shared};
 use crate::signals;
 use crate::socket::Socket;
 use crate::starter::Starter;
 use crate::state;
 use crate::system_calls;
-use log::{debug, error, info, warn, Level};
+use log::{error, info, warn, Level};
+use pitskhomu_vhost_user::session::{self, Connection};
 use std::error::Error;
 use std::fs::{self, File};
 use std::io;
 use std::os::fd::{AsFd, AsRawFd, FromRawFd, IntoRawFd};
 use std::os::unix::net::UnixStream;
 use std::path::Path;
-use std::sync::mpsc::{channel, Sender};
 use std::sync::{Arc, Mutex, PoisonError};
-use std::thread;
 use std::time::Duration;
-use vhost::vhost_user::{BackendListener, BackendReqHandler, Error as FrontEndError, Listener};
+use vhost::vhost_user::{BackendListener, BackendReqHandler, Listener};
 use virtiofsd::limits::setup_rlimit_nofile;
 use virtiofsd::passthrough::read_only::PassthroughFsRo;
 use virtiofsd::passthrough::{CachePolicy, Config, PassthroughFs};
@@ -293,9 +291,8 @@ impl Serving {
         capabilities::give_up(&self.capabilities)?;
         system_calls::limit(self.seccomp, self.syslog)?; // new threads inherit it
         logger.start().map_err(|e| no_thread("the log's thread", &e))?;
-        core.start().map_err(|e| no_thread("the session's thread", &e))?;
         self.asked.start(core.clone()).map_err(|e| no_thread("the thread for the numbers", &e))?;
-        start_threads(&core)?;
+        session::start_threads(&core, own_directory)?;
         let front_end = FrontEnd::new(core.clone(), self.tag)?;
         let front_end = Arc::new(Mutex::new(front_end));
         let (mut listener, mut control) = (self.listener, self.control);
@@ -322,7 +319,7 @@ impl Serving {
 fn connection<F: ServedFs>(
     listener: Listener,
     front_end: Arc<Mutex<FrontEnd<F>>>,
-) -> BackendReqHandler<Mutex<FrontEnd<F>>> {
+) -> Connection<F> {
     let fd = listener.as_raw_fd();
     std::mem::forget(listener); // it is no listener, and has no path to remove
                                 // SAFETY: the descriptor is open, and owned from here on.
@@ -346,7 +343,7 @@ fn accept<F: ServedFs>(
     listener: Listener,
     front_end: Arc<Mutex<FrontEnd<F>>>,
     control: &mut Control,
-) -> Result<Option<BackendReqHandler<Mutex<FrontEnd<F>>>>, Failure> {
+) -> Result<Option<Connection<F>>, Failure> {
     info!("Waiting for vhost-user socket connection...");
     control.starter.serves();
     if replace::wait_for_front_end(listener.as_raw_fd(), control)? == Turn::Replaced {
@@ -371,54 +368,25 @@ fn no_thread(what: &str, e: &io::Error) -> String {
     )
 }
 
-/// Starts the threads of all queues, and returns when each is there.
-fn start_threads<F: ServedFs>(core: &Arc<Core<F>>) -> Result<(), Failure> {
-    let (ready, is_ready) = channel();
-    for (index, ring) in core.rings.iter().enumerate() {
-        for number in 1..=ring.threads {
-            let threads = ring.threads;
-            let which = || format!("thread {number} of {threads} of queue {index}");
-            start_thread(core.clone(), index, ready.clone())
-                .map_err(|e| no_thread(&which(), &e))?;
+/// The first call of each queue's thread: virtiofsd changes the thread's working directory for
+/// extended attributes.
+fn own_directory() -> io::Result<()> {
+    // SAFETY: no memory is touched.
+    match unsafe { libc::unshare(libc::CLONE_FS) } {
+        0 => Ok(()),
+        _ => {
+            let e = io::Error::last_os_error();
+            Err(io::Error::other(format!("unshare(CLONE_FS): {e}")))
         }
     }
-    drop(ready);
-    for (index, result) in is_ready {
-        result.map_err(|e| format!("a thread of queue {index}: unshare(CLONE_FS): {e}"))?;
-    }
-    Ok(())
-}
-
-fn start_thread<F: ServedFs>(
-    core: Arc<Core<F>>,
-    index: usize,
-    ready: Sender<(usize, io::Result<()>)>,
-) -> io::Result<()> {
-    let mut worker = QueueWorker::new(core.clone(), index);
-    thread::Builder::new().name(format!("queue {index}")).spawn(move || {
-        // virtiofsd changes the thread's working directory for extended attributes.
-        // SAFETY: no memory is touched.
-        let result = match unsafe { libc::unshare(libc::CLONE_FS) } {
-            0 => Ok(()),
-            _ => Err(io::Error::last_os_error()),
-        };
-        let is_served = result.is_ok();
-        let _ = ready.send((index, result));
-        drop(ready);
-        if is_served {
-            core.rings[index].run(&mut worker);
-        }
-    })?;
-    Ok(())
 }
 
 /// Answers the front-end's messages until it disconnects, or another daemon serves it.
 fn answer<F: ServedFs>(
-    mut handler: BackendReqHandler<Mutex<FrontEnd<F>>>,
+    mut handler: Connection<F>,
     core: &Core<F>,
     turns: &mut Turns<'_, F>,
 ) -> Result<(), Failure> {
-    let iommu = core.memory().iommu().clone();
     loop {
         match turns.next() {
             Ok(Turn::Message) => {}
@@ -426,20 +394,8 @@ fn answer<F: ServedFs>(
             Err(e) if turns.serves() => return Err(format!("the control socket: {e}").into()),
             Err(e) => return Err(format!("the other daemon continues: {e}").into()),
         }
-        match iommu::answer_next(handler.as_raw_fd(), &iommu, || core.memory()) {
-            Ok(iommu::Outcome::Answered) => continue,
-            Ok(iommu::Outcome::Others) => {}
-            Err(e) => return Err(format!("the front-end: {e}").into()),
-        }
-        match handler.handle_request() {
-            Ok(()) => {}
-            Err(FrontEndError::ReqHandlerError(e)) => warn!("the front-end is refused: {e}"),
-            Err(FrontEndError::Disconnected | FrontEndError::PartialMessage) => return Ok(()),
-            Err(FrontEndError::SocketBroken(e)) => {
-                debug!("the front-end's socket: {e}");
-                return Ok(());
-            }
-            Err(e) => return Err(format!("the front-end: {e}").into()),
+        if !session::handle_message(&mut handler, core)? {
+            return Ok(());
         }
     }
 }

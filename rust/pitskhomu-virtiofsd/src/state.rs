@@ -20,8 +20,8 @@ use crate::open_flags::OpenFlags;
 use pitskhomu as p;
 pub use pitskhomu_vhost_user::pipe::scratch;
 use pitskhomu_vhost_user::pipe::Pipe;
+use pitskhomu_vhost_user::state::sum;
 use std::fs::File;
-use std::hash::Hasher;
 use std::io::{self, Read, Seek, Write};
 use virtiofsd::filesystem::SerializableFileSystem;
 
@@ -35,14 +35,6 @@ const STATE_MAX: u64 = 1 << 30;
 
 fn invalid(why: &str) -> io::Error {
     io::Error::new(io::ErrorKind::InvalidData, why)
-}
-
-/// The sum of these bytes: SipHash-2-4 with a key of zeros, which finds damage, and no forger.
-#[allow(deprecated, reason = "std documents this hasher's function, and not its successor's")]
-fn sum(bytes: &[u8]) -> [u8; 8] {
-    let mut hasher = std::hash::SipHasher::new();
-    hasher.write(bytes);
-    hasher.finish().to_le_bytes()
 }
 
 /// Sends the state of a device whose rings are stopped.
@@ -265,13 +257,6 @@ mod tests {
             assert_eq!(device.options(), always);
         }
         assert!(receive(&target, &device, NONE, &room, from(&EMPTY.repeat(2))).is_err());
-    }
-
-    /// By `openssl mac -macopt size:8 -macopt hexkey:00000000000000000000000000000000 SIPHASH`.
-    #[test]
-    fn the_sum_is_siphash_2_4() {
-        assert_eq!(sum(b""), [0xd7, 0x00, 0x77, 0x73, 0x9d, 0x4b, 0x92, 0x1e]);
-        assert_eq!(sum(b"pitskhomu"), [0x41, 0xa7, 0x83, 0xc4, 0xb5, 0x5b, 0xda, 0x7d]);
     }
 
     /// virtiofsd's own reader accepts a version of two bytes.

@@ -159,6 +159,11 @@ pub trait Handler: Send + Sync {
     /// default does nothing. [`Cancelled::undo`] calls the methods of a file system. After a panic
     /// the rest of it isn't undone.
     fn cancelled(&self, _cancelled: &Cancelled) {}
+
+    /// The session has ended without DESTROY, since the device was reset: the guest holds no node,
+    /// and no file is open. Only `pitskhomu-vhost-user` calls this: a [`Builder`] serves one queue,
+    /// and learns of no device.
+    fn session_ended(&self) {}
 }
 
 impl<F: Fn(Request<'_>) + Send + Sync> Handler for F {

@@ -414,6 +414,12 @@ pub struct Request<'w> {
 }
 
 impl Request<'_> {
+    /// The request's opcode, as the guest wrote it (enum `fuse_opcode` of linux/fuse.h).
+    #[must_use]
+    pub fn opcode(&self) -> u32 {
+        self.decoded.call.opcode
+    }
+
     /// Answers by the methods of a file system ([`Operation::call`]).
     ///
     /// # Errors

@@ -2,31 +2,16 @@
 use super::*;
 use crate::migration::Migration;
 use crate::pipe::scratch;
-use pitskhomu::{
-    Answer, Attributes, CStr, Context, Device, Entry, Errno, FileSystem, Handle, Node,
-};
+use pitskhomu::Device;
 use std::fs::File;
 use std::io::{Read, Seek, Write};
 use std::os::fd::{AsRawFd, OwnedFd};
 use std::os::unix::net::UnixStream;
 use std::process::Command;
 use std::sync::mpsc::{channel, Receiver, Sender};
-use std::sync::Mutex;
 use std::time::Duration;
 
 const SOON: Duration = Duration::from_secs(20);
-
-/// Has no file.
-struct Empty;
-
-impl FileSystem for Empty {
-    fn lookup(&self, _: &Context, _: Node, _: &CStr) -> Answer<Entry> {
-        Err(Errno::ENOENT)
-    }
-    fn getattr(&self, _: &Context, _: Node, _: Option<Handle>) -> Answer<(Attributes, Duration)> {
-        Err(Errno::ENOENT)
-    }
-}
 
 const STATE: [u8; 10] = [1, 0, 2, 0, 0, 0, 0, 0, 0, 0];
 
@@ -46,11 +31,11 @@ impl Holding {
 }
 
 impl ServedFs for Holding {
-    type ForChain<'c> = Empty;
-
-    fn for_chain<'c>(&'c self, _chain: Chain<'c>) -> Empty {
-        Empty
+    fn answer(&self, _: &mut Worker, _: &Device, _: Chain<'_>) -> Result<(), Status> {
+        Ok(())
     }
+
+    fn cancelled(&self, _: &Cancelled, _: Chain<'_>) {}
 
     fn destroy(&self) {
         self.hold();
