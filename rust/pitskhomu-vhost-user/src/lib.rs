@@ -37,7 +37,13 @@
 //!         Ok((attributes.with_inode(node.0), KEPT))
 //!     }
 //!
-//!     fn read(&self, _: &Context, _: Node, read: ReadFile, data: &mut ReadData<'_>) -> Answer<()> {
+//!     fn read(
+//!         &self,
+//!         _: &Context,
+//!         _: Node,
+//!         read: ReadFile,
+//!         data: &mut ReadData<'_>,
+//!     ) -> Answer<()> {
 //!         let from = TEXT.len().min(read.offset as usize);
 //!         data.put(&TEXT[from..]);
 //!         Ok(())
