@@ -31,10 +31,10 @@ fn main() {
         None if env::var_os("DOCS_RS").is_some() => None,
         None => Some(of_release().or_else(of_clone).or_else(of_pkg_config).unwrap_or_else(|| {
             refuse(
-                "there is no libpitskhomu.a to link: not in ../../lib (a release), not in \
-                 ../../out (a clone, where `./run --rust` makes one in a minute), and \
-                 `pkg-config pitskhomu` names none. PITSKHOMU_ARCHIVE=FILE names one that lies \
-                 elsewhere, and PKG_CONFIG_PATH the folder of another pitskhomu.pc",
+                "there is no libpitskhomu.a to link: make one in a clone with `./run --rust` (a \
+                 minute), or take lib/libpitskhomu.a of a release, and say where it is with \
+                 `export PITSKHOMU_ARCHIVE=/path/to/libpitskhomu.a`, or without an archive check \
+                 with `PITSKHOMU_ARCHIVE= cargo check`",
             )
         })),
     };

@@ -5,7 +5,8 @@
 //! touches no memory, no file and no clock. This crate has the loop around it:
 //!
 //! - [`GuestMemory`] finds the guest's memory. The worker copies it, since the guest runs at the
-//!   same time. Only [`GuestSlice::new`], which makes a slice of a pointer, is `unsafe`.
+//!   same time. [`MmapMemory`](struct.MmapMemory.html) is one over mmap. Only [`GuestSlice::new`],
+//!   which makes a slice of a pointer, is `unsafe`.
 //! - [`FileSystem`] is the file system that the guest mounts: a method for each call, with a
 //!   default for all but two. Or each call is a value, a [`Request`], with a [`Reply`] object that
 //!   takes its answer later, on any thread ([`Worker::take`]).
@@ -48,8 +49,13 @@
 //! the repository). This crate is tested, not proved. The example `monitor` has a file system and a
 //! guest in memory.
 //!
-//! The feature `std`, which is on by default, makes an [`Errno`] of a `std::io::Error`, and makes
-//! it and [`Status`] errors. Without it the crate is `no_std` with `alloc`.
+//! # Features
+//! - `live`, on by default: the module of this name. It needs `std`.
+//! - `std`: makes an [`Errno`] of a `std::io::Error`, and makes it and [`Status`] errors; on Linux
+//!   [`MmapMemory`], and READ and WRITE by system calls. Without it the crate is `no_std` with
+//!   `alloc`.
+//! - `testing`: the module of this name, a guest for tests of your file system. Name the crate with
+//!   this feature among your dev-dependencies.
 #![no_std]
 #![deny(missing_docs, missing_debug_implementations, unsafe_code, unsafe_op_in_unsafe_fn)]
 
@@ -70,10 +76,12 @@ mod flags;
 mod iotlb;
 mod kept;
 mod listing;
-#[cfg(all(feature = "std", target_os = "linux"))]
+#[cfg(all(feature = "live", target_os = "linux"))]
 pub mod live;
 mod lock;
 mod memory;
+#[cfg(all(feature = "std", target_os = "linux", target_pointer_width = "64"))]
+mod mmap;
 mod operation;
 pub mod prelude;
 mod queue;
@@ -82,7 +90,7 @@ mod requests;
 mod slice;
 mod status;
 mod sys;
-#[cfg(feature = "std")]
+#[cfg(feature = "testing")]
 pub mod testing;
 mod values;
 mod worker;
@@ -106,6 +114,8 @@ pub use flags::{AccessMask, FileKind, OpenOptions, Options, RenameFlags, SetAttr
 pub use iotlb::{Access, Iotlb, Miss};
 pub use listing::{Entries, Listing};
 pub use memory::{GuestMemory, GuestRange, Region, Window};
+#[cfg(all(feature = "std", target_os = "linux", target_pointer_width = "64"))]
+pub use mmap::MmapMemory;
 pub use operation::{Operation, OwnedCall, OwnedRequest, Request};
 pub use queue::{Queue, QueueLayout};
 pub use reply::{Reply, Response, Unsent};

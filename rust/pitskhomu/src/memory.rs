@@ -6,11 +6,13 @@ use core::sync::atomic::{fence, AtomicUsize, Ordering};
 /// The guest's memory, addressed by the numbers of `Region::host`.
 ///
 /// It finds bytes, and the worker copies them. A worker asks only for bytes of its regions. Other
-/// code may call `get_slice` with any number, so check each. Memory that is a list of atomic bytes
-/// needs no `unsafe`. Mapped memory makes a slice of a pointer, and the `unsafe` code for it has
-/// the duties of [`GuestSlice::new`].
+/// code may call `get_slice` with any number, so check each. Mapped memory makes a slice of a
+/// pointer, and the `unsafe` code for it has the duties of [`GuestSlice::new`]. Memory that is a
+/// list of atomic bytes needs no `unsafe`, but is only for a guest that doesn't run while it is
+/// served.
 ///
 /// # Examples
+/// [`MmapMemory`](crate::MmapMemory) maps files by itself. This one is over a mapping of yours:
 /// ```
 /// use pitskhomu::{GuestMemory, GuestSlice};
 /// use std::sync::atomic::AtomicU8;

@@ -11,8 +11,11 @@ use core::sync::atomic::{AtomicU16, AtomicU32, AtomicU8, AtomicUsize, Ordering};
 /// Consecutive bytes of the guest's memory, which the guest and other threads may write at the same
 /// time. The worker copies out of them and into them, each byte once, by relaxed atomic accesses.
 ///
-/// Safe code makes a slice of atomic bytes. Only `unsafe` code makes one of a pointer
-/// ([`GuestSlice::new`]), and must ensure that the bytes are mapped.
+/// **A slice of atomic bytes isn't for a guest that runs.** Safe code makes one, for tests, and the
+/// worker then accesses a ring's numbers byte by byte: a driver that runs meanwhile may see half of
+/// one, and so may the worker. Beside a running guest a slice is made of a pointer
+/// ([`GuestSlice::new`]), by `unsafe` code, which ensures that the bytes are mapped; or by
+/// [`MmapMemory`](crate::MmapMemory).
 ///
 /// # Examples
 /// ```
@@ -45,8 +48,8 @@ impl fmt::Debug for GuestSlice<'_> {
 }
 
 impl<'m> From<&'m [AtomicU8]> for GuestSlice<'m> {
-    /// Memory in safe code. A number of two bytes is accessed in two steps here, which is right
-    /// only for a guest that doesn't run meanwhile.
+    /// Memory in safe code, **not for a guest that runs**: a number of two bytes is accessed in two
+    /// steps.
     fn from(bytes: &'m [AtomicU8]) -> GuestSlice<'m> {
         let at = bytes.as_ptr() as *mut u8;
         GuestSlice { at, len: bytes.len(), is_wide: false, memory: PhantomData }

@@ -276,7 +276,7 @@ impl Attributes {
     }
 
     /// Those of a reply; `None` if a time isn't one.
-    #[cfg(feature = "std")]
+    #[cfg(feature = "testing")]
     #[allow(clippy::cast_possible_wrap)] // as of `raw`
     pub(crate) fn from_raw(raw: &sys::Attr) -> Option<Attributes> {
         let time = |seconds, nanos| Time::new(seconds as i64, nanos);
@@ -535,7 +535,7 @@ mod tests {
         assert_eq!((raw.mode, raw.nlink, raw.uid), (short(7), short(8), short(9)));
         assert_eq!((raw.gid, raw.rdev, raw.block_size), (short(10), short(11), short(12)));
         assert_eq!(raw.flags, short(13));
-        #[cfg(feature = "std")]
+        #[cfg(feature = "testing")]
         assert_eq!(Attributes::from_raw(&raw), Some(attributes));
         let (name, numbers) = (Duration::new(wide(14), 1), Duration::new(wide(15), 999_999_999));
         let entry = Entry::new(Node(wide(16)), attributes).with_generation(wide(17));
