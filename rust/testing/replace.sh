@@ -14,6 +14,8 @@ try_replaced() {
         failure "replaced $*: a file outside the directory changed"
 }
 
+handles='--migration-mode=file-handles --modcaps=+dac_read_search'
+
 compile_replaced() {
     compile replaced replaced.c replaced_parts.c between.c stream.c iommu.c front.c
 }
@@ -23,6 +25,7 @@ replace_some() {
     compile_replaced
     try_replaced refusals
     try_replaced held
+    try_gone
     try_replaced liars 2
     try_replaced race 5
     try_replaced kills 20
@@ -33,9 +36,16 @@ replace_some() {
     THREADS=4 try_replaced times 10
 }
 
+# A removed file that the guest holds.
+try_gone() {
+    try_replaced gone
+    OPTIONS=$handles try_replaced gone
+    OPTIONS=--inode-file-handles=mandatory try_replaced gone
+    OPTIONS='--inode-file-handles=mandatory --migration-mode=file-handles' try_replaced gone
+}
+
 replace_all() {
-    local count=${REPLACEMENTS:-100} handles='--migration-mode=file-handles'
-    handles+=' --modcaps=+dac_read_search'
+    local count=${REPLACEMENTS:-100}
     replace_some
     try_replaced between
     try_replaced race 50
@@ -98,10 +108,10 @@ replace_in_guest() {
 }
 
 replace_in_guests() {
-    local count=${REPLACEMENTS:-50} handles='--migration-mode=file-handles'
+    local count=${REPLACEMENTS:-50}
     THREADS=4 replace_in_guest replaced replaced "$count"
     # shellcheck disable=SC2086
-    replace_in_guest replaced-kept kept_replaced "$count" $handles --modcaps=+dac_read_search
+    replace_in_guest replaced-kept kept_replaced "$count" $handles
     QUEUES=3 THREADS=2 replace_in_guest replaced-queues replaced "$count" --num-request-queues 3
     IOMMU=strict THREADS=2 replace_in_guest replaced-iommu replaced "$count"
 }

@@ -219,6 +219,8 @@ int main(int argc, char **argv) {
         liars(&r, count);
     else if (!strcmp(part, "held"))
         held(&r);
+    else if (!strcmp(part, "gone"))
+        gone(&r, words && strstr(words, "--inode-file-handles=mandatory"), by_handles);
     else if (!strcmp(part, "logged"))
         logged(&r);
     else if (!strcmp(part, "between"))

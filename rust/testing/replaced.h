@@ -47,6 +47,7 @@ void kills(struct replaced *r, int count);
 void race(struct replaced *r, int count);
 void liars(struct replaced *r, int count);
 void held(struct replaced *r);
+void gone(struct replaced *r, bool has_handles, bool moves_handles);
 void logged(struct replaced *r);
 
 /* Between two daemons: each is killed, and each message is held, cut and changed (between.c). */

@@ -207,6 +207,37 @@ void held(struct replaced *r) {
     printf("a held call, refused once\n");
 }
 
+static int error_of(struct replaced *r, uint64_t node) {
+    static struct reply reply;
+    struct fuse_getattr_in in = {0};
+    front_ask(r->front, 1, FUSE_GETATTR, node, &in, sizeof in, &reply);
+    return reply.error;
+}
+
+/* The host removes a file whose node the guest holds. A node with a file handle is gone for good,
+ * so the daemon is replaced without it. A descriptor keeps the file: the new daemon finds it by a
+ * file handle, and by paths it doesn't, so none takes over until the guest forgets it. */
+void gone(struct replaced *r, bool has_handles, bool moves_handles) {
+    char path[300];
+    snprintf(path, sizeof path, "%s/gone", r->front->dir);
+    int fd = open(path, O_CREAT | O_WRONLY, 0644);
+    uint64_t node = look_up(r->front, 1, "gone");
+    if (fd < 0 || close(fd) || unlink(path)) die("no file: %s", strerror(errno));
+    if (error_of(r, node) != (has_handles ? ESTALE : 0)) die("a removed file, before");
+    bool is_replaced = replace(r, NULL);
+    if (is_replaced != (has_handles || moves_handles)) show_log(r), die("it is replaced, or not");
+    if (!is_replaced && !log_has(r, "1 files that the guest holds have no path any more"))
+        show_log(r), die("not the reason");
+    if (error_of(r, node) != (has_handles ? EBADF : 0)) die("a removed file, after");
+    struct fuse_forget_in once = {.nlookup = 1};
+    front_send(r->front, 1, FUSE_FORGET, node, &once, sizeof once, 0);
+    if (!front_wait(r->front, 1, 20000)) die("FORGET doesn't come back");
+    if (!replace(r, NULL)) show_log(r), die("it isn't replaced after FORGET");
+    if (error_of(r, node) != EBADF) die("a node that is forgotten");
+    look_up(r->front, 1, "node-0");
+    printf("a removed file: %s\n", is_replaced ? "replaced" : "refused until it was forgotten");
+}
+
 enum { LOG_LEN = 1 << 18, SET_DEVICE_STATE_FD = 42, CHECK_DEVICE_STATE = 43 };
 
 static bool is_marked(const uint8_t *log, uint64_t guest) {

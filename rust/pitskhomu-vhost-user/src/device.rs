@@ -72,6 +72,13 @@ pub trait ServedFs: Send + Sync + 'static {
     /// # Errors
     /// Any ends the migration.
     fn load_state(&self, device: &pitskhomu::Device, pipe: Pipe) -> io::Result<()>;
+
+    /// Looks at a saved state that another process of the same host will load, and returns it
+    /// without what is gone for good on the host. An error says what that process wouldn't find.
+    /// `is_thorough` after a try that failed. By default the state stays as it is.
+    fn check_state(&self, state: Vec<u8>, _is_thorough: bool) -> io::Result<Vec<u8>> {
+        Ok(state)
+    }
 }
 
 /// Rings when an answer comes by a reply object.

@@ -62,4 +62,8 @@ impl<F: OfVirtiofsd> ServedFs for Shared<F> {
         let settings = state::Settings { always_agreed: self.always_agreed, flags: self.flags };
         state::receive(&self.fs, device, settings, &self.scratch, pipe)
     }
+
+    fn check_state(&self, state: Vec<u8>, is_thorough: bool) -> io::Result<Vec<u8>> {
+        state::checked(&self.fs, state, is_thorough)
+    }
 }

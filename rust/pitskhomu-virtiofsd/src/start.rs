@@ -4,7 +4,7 @@ use crate::fd_table;
 use crate::front_end::FrontEnd;
 use crate::guest_cache::GuestCache;
 use crate::logger::{self, Logger};
-use crate::numbers;
+use crate::numbers::{self, MetricsSocket};
 use crate::open_flags::OpenFlags;
 use crate::options::Options;
 use crate::paths;
@@ -207,8 +207,11 @@ pub fn run(mut options: Options, foreground: Option<File>, logger: &Logger) -> R
     let mut sandbox = sandboxed.map_err(|e| format!("Error creating sandbox: {e}"))?;
     let scratch = state::scratch()?;
     let Socket { listener, number } = Socket::open(&options)?;
-    let mut control = Control::new(&options, Path::new(&shared_dir), (record, number), starter)?;
-    let mut asked = numbers::Asked::new(options.metrics.as_deref())?;
+    let takes_over = options.take_over.is_some();
+    let metrics = Arc::new(MetricsSocket::new(options.metrics.as_deref(), takes_over)?);
+    let mut asked = numbers::Asked::new(metrics.clone())?;
+    let mut control =
+        Control::new(&options, Path::new(&shared_dir), (record, number), (metrics, starter))?;
     let listener = sandbox
         .enter(listener)
         .map_err(|e| format!("Error entering sandbox: {shared_dir}: {}", sandbox_error(e)))?;

@@ -23,7 +23,7 @@ use pitskhomu_vhost_user::pipe::Pipe;
 use pitskhomu_vhost_user::state::sum;
 use std::fs::File;
 use std::io::{self, Read, Seek, Write};
-use virtiofsd::filesystem::SerializableFileSystem;
+use virtiofsd::filesystem::{Context, FileSystem, SerializableFileSystem};
 
 /// No state of virtiofsd's ends with these bytes: its last are those of a string of UTF-8, or of
 /// numbers that are less than 128.
@@ -46,24 +46,44 @@ pub fn send(
     mut pipe: Pipe,
 ) -> io::Result<()> {
     let state = over(scratch, |file| fs.serialize(file), &Scratch::Read)?;
-    let (version, rest) = state
+    // A record has at least one queue. If no queue was ever used, there are no options either.
+    let record = if queues.is_empty() { Vec::new() } else { device.save(queues)? };
+    pipe.write_all(&joined(&state, &record)?)
+}
+
+/// A state of virtiofsd's bytes and a record.
+fn joined(inner: &[u8], record: &[u8]) -> io::Result<Vec<u8>> {
+    let (version, rest) = inner
         .split_first()
         .filter(|(version, _)| **version < GOES_ON)
         .ok_or_else(|| invalid("virtiofsd's state has another form than that of 1.13.2"))?;
-    // A record has at least one queue. If no queue was ever used, there are no options either.
-    let record = if queues.is_empty() { Vec::new() } else { device.save(queues)? };
     #[allow(clippy::cast_possible_truncation, reason = "a record has at most 64 queues")]
     let len = record.len() as u32;
-    let sent = [&[version | GOES_ON, 0], rest, &record, &len.to_le_bytes()].concat();
-    pipe.write_all(&sent)?;
-    pipe.write_all(&sum(&sent))?;
-    pipe.write_all(MARK)
+    let mut state = [&[version | GOES_ON, 0], rest, record, &len.to_le_bytes()].concat();
+    let sum = sum(&state);
+    state.extend_from_slice(&sum);
+    state.extend_from_slice(MARK);
+    Ok(state)
 }
 
-/// How many nodes of a state of this daemon's no other daemon can find.
-pub fn lost_nodes(state: Vec<u8>) -> io::Result<usize> {
-    let (state, _) = split(state)?;
-    inner::lost_nodes(&state)
+/// A saved state for another daemon of this host: without the nodes that are gone for good, which
+/// the guest can't use here either. An error says what the other daemon wouldn't find.
+/// `is_thorough` looks at each node with a file handle, which takes some microseconds for each.
+pub fn checked(fs: &impl FileSystem, state: Vec<u8>, is_thorough: bool) -> io::Result<Vec<u8>> {
+    let (inner, record) = split(&state)?;
+    let is_gone = |node: u64| {
+        let context = Context { uid: 0.into(), gid: 0.into(), pid: 0 };
+        let attributes = fs.getattr(context, node.into(), None);
+        attributes.is_err_and(|e| e.raw_os_error() == Some(libc::ESTALE))
+    };
+    match inner::without_gone(&inner, is_thorough, is_gone)? {
+        (_, lost) if lost > 0 => Err(io::Error::other(format!(
+            "{lost} files that the guest holds have no path any more: they were removed, or their \
+            names aren't UTF-8 (--migration-mode=file-handles needs no path)"
+        ))),
+        (Some(inner), _) => joined(&inner, &record.unwrap_or_default()),
+        (None, _) => Ok(state),
+    }
 }
 
 /// The two parts of a state: virtiofsd's own, as virtiofsd wrote it, and the library's record, if
@@ -71,14 +91,14 @@ pub fn lost_nodes(state: Vec<u8>) -> io::Result<usize> {
 type Halves = (Vec<u8>, Option<Vec<u8>>);
 
 /// Splits a state.
-fn split(bytes: Vec<u8>) -> io::Result<Halves> {
+fn split(bytes: &[u8]) -> io::Result<Halves> {
     let is_ours = bytes.first().is_some_and(|version| version & GOES_ON != 0);
     if is_ours || bytes.ends_with(MARK) {
-        return split_ours(&bytes).ok_or_else(|| {
+        return split_ours(bytes).ok_or_else(|| {
             invalid("the state is cut short or damaged, or of an earlier version of this daemon")
         });
     }
-    Ok((bytes, None))
+    Ok((bytes.to_vec(), None))
 }
 
 /// Splits a state of this daemon's: `None` unless it is whole.
@@ -150,7 +170,8 @@ pub fn receive(
     if pipe.take(STATE_MAX + 1).read_to_end(&mut bytes)? as u64 > STATE_MAX {
         return Err(io::Error::other("the state is longer than any"));
     }
-    let (state, record) = split(bytes)?;
+    let (state, record) = split(&bytes)?;
+    drop(bytes);
     let state = inner::for_host(state, settings.flags)?;
     over(scratch, |file| fs.deserialize_and_apply(file), &Scratch::Write(&state))?;
     device.set_options(p::Options::empty());

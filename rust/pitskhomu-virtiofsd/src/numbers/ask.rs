@@ -1,20 +1,18 @@
 //! Who asks for the numbers: SIGUSR1, which writes them to the log, and the socket of --metrics,
 //! which Prometheus reads by HTTP.
 use super::report::{self, Sources};
+use super::MetricsSocket;
 use crate::serve::{Core, ServedFs};
-use crate::socket;
 use log::{info, warn};
 use pitskhomu_vhost_user::pipe::Pipe;
 use std::fs::File;
 use std::io::{self, Read, Write};
-use std::os::fd::{AsRawFd, OwnedFd, RawFd};
-use std::os::unix::net::UnixListener;
-use std::path::Path;
+use std::os::fd::{AsRawFd, OwnedFd};
 use std::sync::atomic::{AtomicI32, Ordering};
 use std::sync::Arc;
 use std::thread;
 use std::time::Duration;
-use vmm_sys_util::epoll::{ControlOperation, Epoll, EpollEvent, EventSet};
+use vmm_sys_util::epoll::EventSet;
 use vmm_sys_util::eventfd::EventFd;
 
 /// The longest that a reader of the socket may pause.
@@ -49,17 +47,6 @@ fn hold_signal(is_held: bool) {
     }
 }
 
-/// Makes the socket of --metrics, to which only its owner can connect.
-fn listen(path: &Path) -> Result<UnixListener, String> {
-    let listener = socket::bind(path, None)
-        .and_then(|listener| listener.set_nonblocking(true).map(|()| listener));
-    listener.map_err(|e| format!("Error creating the socket of the metrics: {e}"))
-}
-
-fn add(events: &Epoll, fd: RawFd) -> io::Result<()> {
-    events.ctl(ControlOperation::Add, fd, EpollEvent::new(EventSet::IN, 0))
-}
-
 /// Reads a request of HTTP to its end.
 fn read_request(reader: &mut impl Read) -> io::Result<Vec<u8>> {
     let (mut request, mut bytes) = (Vec::new(), [0; 1024]);
@@ -86,10 +73,13 @@ fn response(request: &[u8], text: impl FnOnce() -> String) -> String {
     )
 }
 
-/// Answers one reader of the socket.
+/// Answers one reader of the socket. One that asks nothing only looks whether somebody listens.
 fn answer(reader: File, text: impl FnOnce() -> String) -> io::Result<()> {
     let mut asked = Pipe::new(reader.try_clone()?, EventSet::IN, LONGEST_PAUSE)?;
     let request = read_request(&mut asked)?;
+    if request.is_empty() {
+        return Ok(());
+    }
     let mut answered = Pipe::new(reader, EventSet::OUT, LONGEST_PAUSE)?;
     answered.write_all(response(&request, text).as_bytes())
 }
@@ -99,19 +89,18 @@ pub struct Asked {
     /// The event of SIGUSR1.
     signalled: EventFd,
     /// The socket of --metrics.
-    listener: Option<UnixListener>,
+    socket: Arc<MetricsSocket>,
     sources: Sources,
 }
 
 impl Asked {
-    /// Makes the event of SIGUSR1, and the socket of --metrics. Call it before the sandbox's fork:
-    /// the operator knows the number of the parent. An error is a message.
-    pub fn new(metrics: Option<&Path>) -> Result<Asked, String> {
+    /// Makes the event of SIGUSR1. Call it before the sandbox's fork: the operator knows the number
+    /// of the parent. An error is a message.
+    pub fn new(socket: Arc<MetricsSocket>) -> Result<Asked, String> {
         let signalled = EventFd::new(libc::EFD_NONBLOCK | libc::EFD_CLOEXEC)
             .map_err(|e| format!("Error creating an event: {e}"))?;
-        let listener = metrics.map(listen).transpose()?;
         SIGNALLED.store(signalled.as_raw_fd(), Ordering::Relaxed);
-        Ok(Asked { signalled, listener, sources: Sources::new() })
+        Ok(Asked { signalled, socket, sources: Sources::new() })
     }
 
     /// From here on only the thread that answers gets SIGUSR1. Call it in the sandbox.
@@ -122,26 +111,21 @@ impl Asked {
 
     /// Starts the thread. It must have the caller's filter and capabilities.
     pub fn start<F: ServedFs>(self, core: Arc<Core<F>>) -> io::Result<()> {
-        let events = Epoll::new()?;
-        add(&events, self.signalled.as_raw_fd())?;
-        if let Some(listener) = &self.listener {
-            add(&events, listener.as_raw_fd())?;
-        }
+        self.socket.watch(self.signalled.as_raw_fd())?;
         let thread = thread::Builder::new().name("numbers".into());
-        thread.spawn(move || self.answer_all(&core, &events)).map(|_| ())
+        thread.spawn(move || self.answer_all(&core)).map(|_| ())
     }
 
-    fn answer_all<F: ServedFs>(&self, core: &Core<F>, events: &Epoll) {
+    fn answer_all<F: ServedFs>(&self, core: &Core<F>) {
         hold_signal(false);
         loop {
-            let _ = events.wait(-1, &mut [EpollEvent::default()]);
+            let reader = self.socket.next();
             if self.signalled.read().is_ok() {
                 for line in report::for_log(core, &self.sources) {
                     info!("{line}");
                 }
             }
-            let reader = self.listener.as_ref().and_then(|listener| listener.accept().ok());
-            if let Some((reader, _)) = reader {
+            if let Some(reader) = reader {
                 let text = || report::for_prometheus(core, &self.sources);
                 if let Err(e) = answer(File::from(OwnedFd::from(reader)), text) {
                     warn!("a reader of the metrics isn't answered: {e}");

@@ -1,5 +1,6 @@
 //! The control socket, which is made before the sandbox, and what else goes from daemon to daemon.
 use super::Record;
+use crate::numbers::MetricsSocket;
 use crate::options::Options;
 use crate::starter::Starter;
 use crate::state;
@@ -12,6 +13,7 @@ use std::os::unix::fs::{FileTypeExt, MetadataExt};
 use std::os::unix::net::{UnixListener, UnixStream};
 use std::path::{Path, PathBuf};
 use std::ptr;
+use std::sync::Arc;
 use vhost::vhost_user::Listener;
 use virtiofsd::passthrough::MigrationOnError;
 
@@ -25,6 +27,8 @@ pub struct Control {
     pub number: Option<File>,
     /// The number of the process that was started, for the PID file.
     pid: u32,
+    /// The socket of --metrics.
+    pub metrics: Arc<MetricsSocket>,
     /// Those who wait until this daemon serves.
     pub starter: Starter,
     /// The user that may replace the daemon: its own, as the sandbox has it.
@@ -120,9 +124,10 @@ impl Control {
     pub fn new(
         options: &Options,
         directory: &Path,
-        (record, number): (Record, Option<File>),
-        starter: Starter,
+        (mut record, number): (Record, Option<File>),
+        (metrics, starter): (Arc<MetricsSocket>, Starter),
     ) -> Result<Control, String> {
+        record.wanted = metrics.wanted();
         let path = options.control_socket.as_deref();
         let listener = match (path, &options.take_over) {
             (Some(path), Some(old)) if path != old => {
@@ -137,7 +142,7 @@ impl Control {
         let pipe = state::scratch().map_err(|e| format!("a file in memory: {e}"))?;
         let (pid, user, life) = (std::process::id(), 0, None);
         let may_lose = options.migration_on_error == MigrationOnError::GuestError;
-        Ok(Control { listener, number, pid, starter, user, record, may_lose, pipe, life })
+        Ok(Control { listener, number, pid, metrics, starter, user, record, may_lose, pipe, life })
     }
 
     /// The daemon is in its sandbox, where its user may have another number. The process that waits
@@ -157,12 +162,25 @@ impl Control {
         writeln!(number, "{}", self.pid)
     }
 
-    /// This daemon has taken over from another: the control socket and the PID file are its own
-    /// from here on.
-    pub fn adopt(&mut self, listener: Option<OwnedFd>, number: Option<OwnedFd>) {
+    /// Why the daemon with this record can't replace this one, if so.
+    pub fn refuses(&self, new: &Record) -> Option<String> {
+        let lends = self.metrics.lend().map(|(_, id)| id);
+        if new.wanted.is_some() && new.wanted != lends {
+            return Some("its option --metrics names another process's socket".into());
+        }
+        self.record.refuses(new)
+    }
+
+    /// This daemon has taken over from another: the control socket, the PID file, and the socket of
+    /// --metrics if it is the same, are its own from here on.
+    pub fn adopt(&mut self, [listener, number, metrics]: [Option<OwnedFd>; 3]) {
         (self.listener, self.number) = (listener, number.map(Into::into));
         if let Err(e) = self.write_number() {
             warn!("the PID file has the old daemon's number: {e}");
+        }
+        let adopted = metrics.map_or(Ok(()), |metrics| self.metrics.adopt(metrics));
+        if let Err(e) = adopted {
+            warn!("nobody serves the socket of --metrics: {e}");
         }
     }
 }

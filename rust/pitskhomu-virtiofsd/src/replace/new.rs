@@ -43,7 +43,7 @@ impl Old {
             return Err(io::Error::other("TAKE of a front-end without its messages"));
         }
         confirm(self.0, offer.life.as_ref())?;
-        control.adopt(offer.listener, offer.number);
+        control.adopt(offer.kept);
         control.starter.serves();
         Ok(Some(offer.socket))
     }
@@ -85,7 +85,7 @@ impl Old {
         front_end: &mut FrontEnd<F>,
         control: &mut Control,
     ) -> io::Result<()> {
-        let Offer { take, socket, listener, number, channel, life } = Offer::receive(self.0)?;
+        let Offer { take, socket, kept, channel, life } = Offer::receive(self.0)?;
         if take.with & Take::LISTENER != 0 {
             return Err(io::Error::other("TAKE of a listener behind a front-end's messages"));
         }
@@ -93,7 +93,7 @@ impl Old {
         drop(socket);
         front_end.connect(self.0)?;
         confirm(old.as_raw_fd(), life.as_ref())?;
-        control.adopt(listener, number);
+        control.adopt(kept);
         if let Some(channel) = channel {
             #[allow(clippy::cast_possible_truncation, reason = "there are few")]
             let unanswered = take.unanswered as usize;
@@ -113,10 +113,8 @@ struct Offer {
     take: Take,
     /// The front-end's, or the one that a front-end will connect to.
     socket: OwnedFd,
-    /// The control socket.
-    listener: Option<OwnedFd>,
-    /// The PID file.
-    number: Option<OwnedFd>,
+    /// The control socket, the PID file and the socket of --metrics.
+    kept: [Option<OwnedFd>; 3],
     /// The back-end's channel.
     channel: Option<OwnedFd>,
     /// A pipe that ends when the old daemon dies.
@@ -132,10 +130,10 @@ impl Offer {
         let mut sent = |is_sent: bool| if is_sent { fds.next() } else { None };
         let socket = sent(received.len == bytes.len());
         let socket = socket.ok_or_else(|| io::Error::other("TAKE without the front-end"))?;
-        let [listener, number, channel, life] =
-            [Take::CONTROL, Take::NUMBER, Take::CHANNEL, Take::LIFE]
+        let [listener, number, channel, metrics, life] =
+            [Take::CONTROL, Take::NUMBER, Take::CHANNEL, Take::METRICS, Take::LIFE]
                 .map(|bit| sent(take.with & bit != 0));
-        Ok(Offer { take, socket, listener, number, channel, life })
+        Ok(Offer { take, socket, kept: [listener, number, metrics], channel, life })
     }
 }
 

@@ -7,9 +7,8 @@ use crate::front_end::{Agreed, FrontEnd};
 use crate::memory::Table;
 use crate::ring::{Handed, Ring};
 use crate::serve::{Core, ServedFs};
-use crate::state;
 use log::info;
-use std::io::{self, Read, Seek};
+use std::io::{self, Read, Seek, Write};
 use std::os::fd::{AsRawFd, OwnedFd, RawFd};
 use std::sync::Arc;
 use std::time::Instant;
@@ -35,6 +34,8 @@ struct Giving<'g, F> {
     to: Successor,
     rings: Vec<Handed>,
     agreed: Agreed,
+    /// How often this is tried with that daemon.
+    tries: u32,
 }
 
 /// Why a daemon doesn't take over.
@@ -50,9 +51,11 @@ pub fn give<F: ServedFs>(
     front_end: &mut FrontEnd<F>,
     control: &Control,
     sockets: (RawFd, OwnedFd),
+    tries: u32,
 ) -> Result<(), Kept> {
     let begun = Instant::now();
     let mut giving = Giving::new(front_end, control, sockets, begun).map_err(Kept::ForGood)?;
+    giving.tries = tries;
     let given = giving.run(begun);
     let Err(why) = given else { return Ok(()) };
     giving.front_end.stay();
@@ -87,7 +90,7 @@ impl<'g, F: ServedFs> Giving<'g, F> {
         let to = Successor::new(heir, begun + PATIENCE)?;
         let agreed = front_end.agreed()?;
         let rings = core.rings.iter().map(Ring::handed).collect::<io::Result<_>>()?;
-        Ok(Giving { front_end, core, control, socket, to, rings, agreed })
+        Ok(Giving { front_end, core, control, socket, to, rings, agreed, tries: 1 })
     }
 
     fn run(&mut self, begun: Instant) -> io::Result<()> {
@@ -114,6 +117,7 @@ impl<'g, F: ServedFs> Giving<'g, F> {
         let ms = |from: Instant, to: Instant| (to - from).as_secs_f64() * 1e3;
         let (paused, told) = (ms(stops, Instant::now()), ms(begun, stops));
         info!("another daemon serves the guest: {told:.1} ms of messages, {paused:.1} ms of pause");
+        self.control.metrics.leave();
         self.to.set_end(Instant::now() + LAST_PATIENCE);
         self.to.wait_for_end();
         Ok(())
@@ -220,24 +224,27 @@ impl<'g, F: ServedFs> Giving<'g, F> {
         self.to.ask(FrontendReq::GET_FEATURES, &[], &[]).map(|_| ())
     }
 
-    /// Refuses a state with a node that the new daemon wouldn't find.
+    /// Refuses a state with a node that the new daemon wouldn't find, and drops the nodes that are
+    /// gone for good. Only after a try that failed it looks at each file handle.
     fn check_state(&self) -> io::Result<()> {
         if self.control.may_lose {
             return Ok(());
         }
         let (mut pipe, mut state) = (&self.control.pipe, Vec::new());
         pipe.read_to_end(&mut state)?;
+        let len = state.len();
+        let checked = self
+            .core
+            .fs
+            .check_state(state, self.tries > 1)
+            .map_err(|why| io::Error::new(Self::IN_A_MOMENT, why))?;
         pipe.rewind()?;
-        match state::lost_nodes(state)? {
-            0 => Ok(()),
-            count => {
-                let why = format!(
-                    "{count} files that the guest holds have no path any more: they were removed, \
-                     or their names aren't UTF-8 (--migration-mode=file-handles needs no path)"
-                );
-                Err(io::Error::new(Self::IN_A_MOMENT, why))
-            }
+        if checked.len() != len {
+            pipe.set_len(0)?;
+            pipe.write_all(&checked)?;
+            pipe.rewind()?;
         }
+        Ok(())
     }
 
     fn start_ring(&self, index: usize) -> io::Result<()> {
@@ -280,6 +287,7 @@ fn offer(
         (control.listener.as_ref().map(AsRawFd::as_raw_fd), Take::CONTROL),
         (control.number.as_ref().map(AsRawFd::as_raw_fd), Take::NUMBER),
         (channel, Take::CHANNEL),
+        (control.metrics.lend().map(|(fd, _)| fd), Take::METRICS),
         (control.life.as_ref().map(|(reader, _)| reader.as_raw_fd()), Take::LIFE),
     ] {
         if let Some(fd) = fd {
@@ -298,6 +306,7 @@ pub fn give_listener(listener: RawFd, control: &Control, heir: OwnedFd) -> io::R
     let take = Take { with: Take::LISTENER, ..Take::default() };
     match offer(&mut to, take, (listener, None), control).and_then(|()| to.go()) {
         Ok(()) => {
+            control.metrics.leave();
             to.set_end(Instant::now() + LAST_PATIENCE);
             to.wait_for_end();
             Ok(())

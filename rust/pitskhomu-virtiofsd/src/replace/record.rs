@@ -1,5 +1,6 @@
 //! What a daemon says of itself when it is ready to take over: its version, its directory, and the
 //! options that the guest can notice.
+use crate::numbers::SocketId;
 use crate::options::{Listed, Options};
 use std::fmt::Write;
 use std::fs;
@@ -14,6 +15,9 @@ const LEN: usize = 4;
 /// The greatest length of a record. One with longer options can't take over.
 const MOST: usize = 1 << 16;
 
+/// The name of the line that `Record::wanted` has. No option has it.
+const WANTED: &str = "metrics-socket";
+
 /// The record of a daemon.
 #[derive(Debug, Clone, PartialEq, Eq)]
 pub struct Record {
@@ -22,6 +26,8 @@ pub struct Record {
     directory: (u64, u64),
     /// The options that are set.
     options: Listed,
+    /// The old daemon's socket of --metrics, which this daemon wants.
+    pub wanted: Option<SocketId>,
 }
 
 fn invalid(why: &str) -> io::Error {
@@ -41,6 +47,7 @@ impl Record {
             version: env!("CARGO_PKG_VERSION").into(),
             directory: (data.dev(), data.ino()),
             options: options.differing(),
+            wanted: None,
         })
     }
 
@@ -50,6 +57,9 @@ impl Record {
         let mut text = format!("{}\n{device} {number}\n", self.version);
         for (name, value) in &self.options {
             let _ = writeln!(text, "{name} {value}"); // a String takes all
+        }
+        if let Some((device, number)) = self.wanted {
+            let _ = writeln!(text, "{WANTED} {device} {number}");
         }
         let len = u32::try_from(text.len()).ok().filter(|len| *len as usize <= MOST);
         let len = len.ok_or_else(|| invalid("the options are too long to take over with them"))?;
@@ -87,7 +97,12 @@ impl Record {
                 .map(|(name, value)| (name.to_owned(), value.to_owned()))
                 .ok_or_else(wrong)
         });
-        Ok(Record { version, directory, options: options.collect::<io::Result<_>>()? })
+        let mut options = options.collect::<io::Result<Listed>>()?;
+        let wanted = options.remove(WANTED).map(|text| {
+            let (device, number_of) = text.split_once(' ').ok_or_else(wrong)?;
+            Ok::<_, io::Error>((number(device)?, number(number_of)?))
+        });
+        Ok(Record { version, directory, options, wanted: wanted.transpose()? })
     }
 
     /// Why the daemon with the record `new` can't replace the one with this record, if so.
@@ -124,12 +139,13 @@ mod tests {
 
     #[test]
     fn a_record_arrives_byte_by_byte() {
-        let sent = record("--xattrmap=:map::user.virtiofs.: --tag=a\n --modcaps=+sys_admin");
+        let mut sent = record("--xattrmap=:map::user.virtiofs.: --tag=a\n --modcaps=+sys_admin");
+        sent.wanted = Some((7, 1 << 40));
         let bytes = sent.ready().expect("bytes");
         for len in 0..bytes.len() {
             assert_eq!(Record::of(&bytes[..len]).expect("a part"), None, "{len}");
         }
-        assert_eq!(Record::of(&bytes).expect("all").expect("a record").refuses(&sent), None);
+        assert_eq!(Record::of(&bytes).expect("all").as_ref(), Some(&sent));
         assert!(Record::of(&[&bytes[..], b"x"].concat()).is_err());
     }
 
@@ -140,9 +156,15 @@ mod tests {
             Record::of(&[&READY[..], &len, text].concat())
         };
         assert!(of(b"0.1.0\n1 2\n").is_ok());
-        for wrong in
-            [&b""[..], b"0.1.0", b"0.1.0\n12\n", b"0.1.0\na b\n", b"0.1.0\n1 2\nxattr", b"\xff"]
-        {
+        for wrong in [
+            &b""[..],
+            b"0.1.0",
+            b"0.1.0\n12\n",
+            b"0.1.0\na b\n",
+            b"0.1.0\n1 2\nxattr",
+            b"\xff",
+            b"0.1.0\n1 2\nmetrics-socket 1",
+        ] {
             assert!(of(wrong).is_err(), "{wrong:?}");
         }
         assert!(Record::of(b"GET / HTTP/1.1").is_err() && Record::of(b"x").is_err());

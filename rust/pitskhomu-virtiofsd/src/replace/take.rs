@@ -22,6 +22,8 @@ impl Take {
     pub const CHANNEL: u64 = 4;
     /// A pipe that closes when the old daemon dies.
     pub const LIFE: u64 = 8;
+    /// The socket of --metrics.
+    pub const METRICS: u64 = 32;
     /// No front-end has connected yet: the first descriptor is the socket that it connects to.
     pub const LISTENER: u64 = 16;
     /// The length of the words in bytes.

@@ -89,7 +89,7 @@ impl<'t, F: ServedFs> Turns<'t, F> {
     fn choose(&mut self, socket: OwnedFd, record: &Record) -> bool {
         let Some(waits) = &mut self.waits else { return false };
         let mut front_end = self.front_end.lock().unwrap_or_else(PoisonError::into_inner);
-        let why = match (self.control.record.refuses(record), front_end.keeps_daemon()) {
+        let why = match (self.control.refuses(record), front_end.keeps_daemon()) {
             (Some(why), _) => Some(why),
             (None, Some(why)) => Some(why.into()),
             (None, None) => waits.has_chosen().then(|| "another daemon takes over already".into()),
@@ -147,7 +147,7 @@ impl<'t, F: ServedFs> Turns<'t, F> {
             refuse(heir.socket, why);
             return false;
         }
-        match give(&mut front_end, &self.control, (self.socket, heir.socket)) {
+        match give(&mut front_end, &self.control, (self.socket, heir.socket), heir.tries) {
             Ok(()) => return true,
             Err(Kept::Now(socket, why)) => self.postpone(socket, heir.tries, &why),
             Err(Kept::ForGood(why)) => {
@@ -178,7 +178,7 @@ pub fn wait_for_front_end(listener: RawFd, control: &Control) -> io::Result<Turn
     loop {
         match waits.next()? {
             Next::FrontEnd => return Ok(Turn::Message),
-            Next::Ready(heir, record) => match control.record.refuses(&record) {
+            Next::Ready(heir, record) => match control.refuses(&record) {
                 Some(why) => {
                     warn!("a daemon that would take over is refused: {why}");
                     refuse(heir, &why);

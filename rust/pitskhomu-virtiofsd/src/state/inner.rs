@@ -153,11 +153,31 @@ fn correct(handles: &mut [Handle], host: OpenFlags) -> bool {
     differs
 }
 
-/// The number of nodes that have no place.
-pub fn lost_nodes(state: &[u8]) -> io::Result<usize> {
-    let read = postcard::from_bytes::<State>(state).map_err(io::Error::other)?;
-    let (State::V1(parts) | State::V2(parts, _)) = &read;
-    Ok(parts.nodes.iter().filter(|node| matches!(node.place, Place::Lost)).count())
+/// Drops the nodes that are gone for good: `is_gone` is asked about those that have no place, and
+/// with `is_thorough` about those with a file handle, unless a file of theirs is open. Returns the
+/// state, if it has changed, and the number of nodes without a place that are left.
+pub fn without_gone(
+    state: &[u8],
+    is_thorough: bool,
+    is_gone: impl Fn(u64) -> bool,
+) -> io::Result<(Option<Vec<u8>>, usize)> {
+    let mut read = postcard::from_bytes::<State>(state).map_err(io::Error::other)?;
+    let (State::V1(parts) | State::V2(parts, _)) = &mut read;
+    let open: BTreeSet<u64> = parts.handles.iter().map(|handle| handle.node).collect();
+    let before = parts.nodes.len();
+    parts.nodes.retain(|Node { number, place, .. }| {
+        let is_asked = match place {
+            Place::Lost => true,
+            Place::FileHandle { .. } => is_thorough,
+            _ => false,
+        };
+        !is_asked || open.contains(number) || !is_gone(*number)
+    });
+    let lost = parts.nodes.iter().filter(|node| matches!(node.place, Place::Lost)).count();
+    if parts.nodes.len() == before {
+        return Ok((None, lost));
+    }
+    Ok((Some(postcard::to_stdvec(&read).map_err(io::Error::other)?), lost))
 }
 
 /// Refuses a state with a number that can't be, and one with more bytes. Returns it with the flags
@@ -234,17 +254,30 @@ mod tests {
         }
     }
 
+    /// Nodes 2 and 6 are gone. A file of node 5 is open.
     #[test]
-    fn lost_nodes_are_counted() {
-        let lost = |parts: Parts| {
-            let state = State::V2(parts, BTreeMap::new());
-            lost_nodes(&postcard::to_stdvec(&state).expect("bytes")).expect("a state")
+    fn nodes_that_are_gone_are_dropped() {
+        let handle_of = |k| Place::FileHandle { _handle: (1, 2, vec![k]) };
+        let state = |places: Vec<(u64, Place)>| {
+            let mut parts = Parts { next_node: 9, ..parts() };
+            parts.nodes.extend(places.into_iter().map(|(number, place)| node(number, 1, place)));
+            postcard::to_stdvec(&State::V2(parts, BTreeMap::new())).expect("bytes")
         };
-        assert_eq!(lost(parts()), 0);
-        let mut one = parts();
-        one.nodes[0].place = Place::Lost;
-        assert_eq!(lost(one), 1);
-        assert!(lost_nodes(b"").is_err());
+        let without = |places: Vec<(u64, Place)>, is_thorough| {
+            let is_gone = |number| [2, 5, 6].contains(&number);
+            without_gone(&state(places), is_thorough, is_gone).expect("a state")
+        };
+        let all = || vec![(2, handle_of(1)), (4, handle_of(2)), (6, Place::Lost), (7, Place::Lost)];
+        assert_eq!(without(vec![(4, handle_of(2))], true), (None, 0));
+        let left = state(vec![(2, handle_of(1)), (4, handle_of(2)), (7, Place::Lost)]);
+        assert_eq!(without(all(), false), (Some(left), 1));
+        let left = state(vec![(4, handle_of(2)), (7, Place::Lost)]);
+        assert_eq!(without(all(), true), (Some(left), 1));
+        let mut open = parts();
+        open.nodes[0].place = Place::Lost;
+        let open = postcard::to_stdvec(&State::V1(open)).expect("bytes");
+        assert_eq!(without_gone(&open, true, |_| true).expect("a state"), (None, 1));
+        assert!(without_gone(b"", true, |_| true).is_err());
     }
 
     #[test]

@@ -10,6 +10,7 @@ from functools import partial
 
 from daemon import Daemon, sandboxes, serves
 from front import Lost
+from replaced import New
 from rows import Row
 
 PREFIX = "pitskhomu_virtiofsd_"
@@ -77,6 +78,47 @@ def with_metrics(daemon, program, options, _more):
     return program, [*options, f"--metrics={daemon.metrics}"]
 
 
+def with_control(daemon, program, options, more):
+    program, options = with_metrics(daemon, program, options, more)
+    return program, [*options, f"--control-socket={daemon.folder}/control"]
+
+
+def asked(path):
+    """How often the guest of the daemon at this path has asked for attributes."""
+    return values(scrape(path)[1]).get('request_duration_seconds_count{opcode="GETATTR"}', 0)
+
+
+def taken_over(program, old, *options):
+    """Replaces the daemon."""
+    new = New(program, old, *options)
+    must(old.process.wait(20) == 0, f"the old one stays: {old.said()}")
+    old.process = new.process
+
+
+def kept(program):
+    """The socket stays the old daemon's if the new one doesn't take over, and else is the new
+    one's."""
+    with Daemon(program, prepare=with_control) as old:
+        front, path, other = old.front().begin(), old.metrics, old.folder + "/other"
+        option = f"--metrics={path}"
+        must(not front.attributes() and asked(path) == 1, "no numbers")
+        must(New(program, old, option, "--readonly").ended() == 1, "another option")
+        must(not front.attributes() and asked(path) == 2, "a refused one has the socket")
+        for _ in range(2):
+            taken_over(program, old, option)
+            must(not front.attributes() and asked(path) == 1, "the new one lacks the socket")
+        with socket.socket(socket.AF_UNIX) as stranger:
+            stranger.bind(other)
+            stranger.listen()
+            must(New(program, old, f"--metrics={other}").ended() == 1, "a stranger's socket")
+            must("names another process's socket" in old.said(), "not the reason")
+        taken_over(program, old, f"--metrics={other}") # nobody listens there any more
+        must(not front.attributes() and asked(other) == 1, "no numbers at another path")
+        taken_over(program, old, option)
+        must(not front.attributes() and asked(path) == 1, "no numbers at the first path")
+        return serves(old, front)
+
+
 def silent(program):
     """Readers that say nothing, or leave at once, keep nobody from the numbers for long."""
     with Daemon(program, prepare=with_metrics) as daemon:
@@ -117,4 +159,5 @@ def signalled(program, sandbox):
 def rows():
     return [Row(f"{name}, {sandbox}", partial(run, sandbox=sandbox)) for sandbox in sandboxes()
         for name, run in (("numbers by a socket", served), ("numbers by SIGUSR1", signalled))] + [
-        Row("a reader of the numbers that says nothing", silent)]
+        Row("a reader of the numbers that says nothing", silent),
+        Row("the socket of the numbers, while the daemon is replaced", kept)]
