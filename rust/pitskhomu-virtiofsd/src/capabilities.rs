@@ -37,6 +37,11 @@ impl Changes {
         Ok(Changes { changes, for_handles })
     }
 
+    /// Whether the daemon may open inodes by their handles.
+    pub fn opens_handles(&self) -> bool {
+        self.wanted().iter().any(|name| name == FOR_HANDLES)
+    }
+
     /// The names of the capabilities to keep, each once.
     fn wanted(&self) -> Vec<String> {
         let by_habit = KEPT.iter().copied().chain(self.for_handles.then_some(FOR_HANDLES));

@@ -4,6 +4,7 @@ mod adapter;
 mod capabilities;
 mod fd_table;
 mod guest_cache;
+mod landlock;
 mod logger;
 mod numbers;
 mod open_flags;

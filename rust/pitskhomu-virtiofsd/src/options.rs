@@ -12,7 +12,7 @@ use std::path::PathBuf;
 use std::sync::LazyLock;
 use std::time::Duration;
 use values::{tag, xattr_map};
-pub use values::{CapabilityChanges, Handles, Seccomp};
+pub use values::{CapabilityChanges, Handles, Landlock, Seccomp};
 use virtiofsd::idmap::{GidMap, UidMap};
 use virtiofsd::passthrough::xattrmap::XattrMap;
 use virtiofsd::passthrough::{CachePolicy, MigrationMode, MigrationOnError};
@@ -145,6 +145,17 @@ pub struct Options {
     /// - none: There is no filter.
     #[arg(long, default_value = "kill")]
     pub seccomp: Seccomp,
+    /// Whether landlock confines the daemon to the shared directory, too: never, prefer, mandatory
+    ///
+    /// - prefer: If the kernel has landlock (Linux 5.19 or later), and the daemon opens no files by
+    ///   their handles. A directory that the host moves out of the shared one can't be opened any
+    ///   more.
+    ///
+    /// - mandatory: Without it the daemon doesn't start.
+    ///
+    /// - never: There is no landlock.
+    #[arg(long, default_value = "prefer")]
+    pub landlock: Landlock,
     /// Capabilities that root's daemon keeps (+) or drops (-), such as +sys_admin:-chown
     ///
     /// By default it keeps chown, dac_override, fowner, fsetid, mknod, setfcap, setgid and setuid,

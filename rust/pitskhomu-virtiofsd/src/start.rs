@@ -3,6 +3,7 @@ use crate::capabilities;
 use crate::fd_table;
 use crate::front_end::FrontEnd;
 use crate::guest_cache::GuestCache;
+use crate::landlock;
 use crate::logger::{self, Logger};
 use crate::numbers::{self, MetricsSocket};
 use crate::open_flags::OpenFlags;
@@ -220,7 +221,7 @@ pub fn run(mut options: Options, foreground: Option<File>, logger: &Logger) -> R
 
     let proc_self_fd = sandbox.get_proc_self_fd();
     asked.enter(proc_self_fd.as_ref());
-    let kept = Kept { capabilities, scratch, control, asked };
+    let kept = Kept { capabilities, scratch, control, asked, root: sandbox.get_root_dir() };
     let serving = Serving::new(&mut options, listener, kept);
     let readonly = options.readonly;
     let config = config(options, &mut sandbox, proc_self_fd, guest_descriptors);
@@ -237,6 +238,7 @@ struct Kept {
     scratch: File,
     control: Control,
     asked: numbers::Asked,
+    root: String,
 }
 
 /// The options and objects that serving needs besides the file system.
@@ -249,6 +251,9 @@ struct Serving {
     polls: Duration,
     capabilities: capabilities::Changes,
     seccomp: crate::options::Seccomp,
+    landlock: crate::options::Landlock,
+    /// The directory's path in the sandbox.
+    root: String,
     syslog: bool,
     flags: OpenFlags,
     cache: GuestCache,
@@ -261,7 +266,7 @@ struct Serving {
 
 impl Serving {
     fn new(options: &mut Options, listener: Listener, kept: Kept) -> Serving {
-        let Kept { capabilities, scratch, control, asked } = kept;
+        let Kept { capabilities, scratch, control, asked, root } = kept;
         Serving {
             listener,
             scratch,
@@ -271,6 +276,8 @@ impl Serving {
             polls: Duration::from_micros(options.poll_max_us.into()),
             capabilities,
             seccomp: options.seccomp,
+            landlock: options.landlock,
+            root,
             syslog: options.syslog,
             flags: OpenFlags {
                 allow_direct_io: options.allow_direct_io,
@@ -292,6 +299,7 @@ impl Serving {
         core.rings.iter().for_each(|ring| ring.poll_at_most(self.polls));
         logger::lead_errors()?;
         capabilities::give_up(&self.capabilities)?;
+        landlock::confine(self.landlock, &self.root, self.capabilities.opens_handles())?;
         system_calls::limit(self.seccomp, self.syslog)?; // new threads inherit it
         logger.start().map_err(|e| no_thread("the log's thread", &e))?;
         self.asked.start(core.clone()).map_err(|e| no_thread("the thread for the numbers", &e))?;

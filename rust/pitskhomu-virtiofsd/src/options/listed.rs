@@ -19,6 +19,7 @@ const FREE: &[&str] = &[
     "foreground",
     "inode-file-handles",
     "keep-cache",
+    "landlock",
     "log-level",
     "metrics",
     "migration-confirm-paths",

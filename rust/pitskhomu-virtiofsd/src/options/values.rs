@@ -66,6 +66,29 @@ impl FromStr for Seccomp {
     }
 }
 
+/// Whether landlock confines the daemon.
+#[derive(Debug, Clone, Copy, PartialEq, Eq)]
+pub enum Landlock {
+    /// It doesn't.
+    Never,
+    /// If the kernel has it, and the other options allow it.
+    Prefer,
+    /// It must.
+    Mandatory,
+}
+
+impl FromStr for Landlock {
+    type Err = &'static str;
+    fn from_str(text: &str) -> Result<Landlock, &'static str> {
+        match text {
+            "never" => Ok(Landlock::Never),
+            "prefer" => Ok(Landlock::Prefer),
+            "mandatory" => Ok(Landlock::Mandatory),
+            _ => Err("Matching variant not found"),
+        }
+    }
+}
+
 /// A change to the default capabilities: one that is kept or dropped.
 #[derive(Debug, Clone, PartialEq, Eq)]
 pub struct CapabilityChange {

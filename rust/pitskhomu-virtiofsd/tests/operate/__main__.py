@@ -11,6 +11,7 @@ from concurrent.futures import ThreadPoolExecutor
 
 sys.dont_write_bytecode = True
 # pylint: disable=wrong-import-position
+import confined
 import ends
 import limits
 import logs
@@ -52,7 +53,7 @@ def main():
     signal.signal(signal.SIGIO, lambda *_: None) # of leases
     programs = [[shutil.which(words[0]), *words[1:]] for words in (sys.argv[1:2], sys.argv[2:])
         if words]
-    parts = (pauses, replaced, reloaded, ends, limits, logs, metrics, paths)
+    parts = (pauses, replaced, reloaded, confined, ends, limits, logs, metrics, paths)
     rows = [row for part in parts for row in part.rows()
         if os.environ.get("ROWS", "") in row.name]
     if not may_sandbox():

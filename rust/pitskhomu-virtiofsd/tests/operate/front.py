@@ -21,7 +21,8 @@ VERSION, NEEDS_REPLY = 1, 8
 MQ, REPLY_ACK, DEVICE_STATE = 1 << 0, 1 << 3, 1 << 19
 FEATURES = 1 << 32 | 1 << 30  # VIRTIO_F_VERSION_1, protocol features
 # Opcodes of linux/fuse.h.
-LOOKUP, GETATTR, OPEN, READ, WRITE, RELEASE, INIT, CREATE = 1, 3, 14, 15, 16, 18, 26, 35
+LOOKUP, GETATTR, SETATTR, OPEN, READ, WRITE, RELEASE = 1, 3, 4, 14, 15, 16, 18
+INIT, CREATE = 26, 35
 SUBMOUNTS = 1 << 27
 ROOT = 1
 
@@ -193,10 +194,10 @@ class Front:
             raise OSError(error, os.strerror(error), name)
         return struct.unpack_from("Q", reply)[0]
 
-    def create(self, name, mode=0o644):
+    def create(self, name, mode=0o644, parent=ROOT):
         """A new file's node and handle."""
         body = struct.pack("IIII", os.O_RDWR | os.O_CREAT, mode, 0, 0) + name.encode() + b"\0"
-        error, reply = self.ask(CREATE, ROOT, body)
+        error, reply = self.ask(CREATE, parent, body)
         if error:
             raise OSError(error, os.strerror(error), name)
         return struct.unpack_from("Q", reply)[0], struct.unpack_from("Q", reply, 128)[0]
