@@ -172,14 +172,14 @@ walks_again l w end at ready run =
     let after = begun_again l w in
     let is = (w.pending || is_free w.turns.phase) || w.turns.called in
     let from : (p : Bool) → p ≡ is → GoesFrom l end (model_of after false p c Walker) = λ p signal.
-        follows l.size l.max_in_flight l.by_event after false p c Walker l.moves end
-        (record {
-          debt = λ so. absurd (true_false false so refl);
-          signal = signal;
-          crowd = refl;
-          lock = sym (ap (λ (q : TurnPhase). holder_at q false) at);
-        })
-        (kept_popping l w at ready) run in
+    follows l.size l.max_in_flight l.by_event after false p c Walker l.moves end
+    (record {
+      debt = λ so. absurd (true_false false so refl);
+      signal = signal;
+      crowd = refl;
+      lock = sym (ap (λ (q : TurnPhase). holder_at q false) at);
+    })
+    (kept_popping l w at ready) run in
     fills l end (c + 1) w.sleepers w.busy w.paused
     (acts l.size l.max_in_flight l.by_event end (filled l (c + 1) w.sleepers w.busy w.paused) Enters (is_lt 0 (c + 1) (some c))
     (subst (λ (n : ℕ). GoesFrom l end (model_of after false true n Walker)) (one_less c)
@@ -213,7 +213,7 @@ no_turn_is_lost_over_resets law threads before last w end small fits few lives r
     let ready = ready_at_last before (begun 0 0 0 false false threads) w (first_ready threads) lives in
     let ended = run.3 in
     let again = goes_again last w end w.turns.phase refl run.0 ready
-        (subst (λ (v : World). Moves (ways_in last) (begun_again last w) last.moves v) (sym ended) run.2) in
+    (subst (λ (v : World). Moves (ways_in last) (begun_again last w) last.moves v) (sym ended) run.2) in
     not_lost law last.size last.max_in_flight last.place last.waiting last.event again.threads last.by_event last.muted end small fits few
     again.goes lost which
 
