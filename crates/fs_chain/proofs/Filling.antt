@@ -13,7 +13,7 @@ use Rattle.vm_memory.proofs.Places.{addresses-append, length-addresses}
 use Rattle.fs_queue.specs.Chain.{Descriptor}
 use Rattle.fs_queue.specs.Taking.{addresses_of, writable}
 use Rattle.fs_regions.specs.Places.{places_in}
-use Rattle.virtiofsd_fuse.specs.Serving.{May}
+use Rattle.server_meanings.specs.Serving.{May}
 use Rattle.plain_machine.specs.StepBy.{byte_store}
 use Rattle.fs_chain.specs.Filling.{HandleFillsBuffer, HandleFillsRange, HasRoom}
 use Rattle.live_machine.specs.Live.{Abandoned, IsStoredIn, Phase, PoppedFaulty, room_of_phase, room_of}

@@ -9,9 +9,9 @@ use Rattle.fuse_fs.specs.declared.answers.Context.{Context}
 use Rattle.fuse_values.specs.Answers.{answer_of}
 use Rattle.fuse_values.specs.Values.{call_of}
 use Rattle.fuse_values.specs.declared.answer.FileAnswer as made_answer
-use Rattle.virtiofsd_fuse.specs.Grammar.{FileCommand, Lists, Meaning, meaning}
-use Rattle.virtiofsd_fuse.specs.Serving.{ServedMessage, Setting, commanded, served, setting}
-use Rattle.virtiofsd_fuse.proofs.Serve.{served_fits}
+use Rattle.server_meanings.specs.Grammar.{FileCommand, Lists, Meaning, meaning}
+use Rattle.server_meanings.specs.Serving.{ServedMessage, Setting, commanded, served, setting}
+use Rattle.server_meanings.proofs.Serve.{served_fits}
 use Rattle.server_phases.specs.Answering.{Gives, ReportsBytes, forget_calls, served_by}
 use Rattle.server_phases.specs.Gathering.{is_list_command}
 use Rattle.server_phases.specs.Waiting.{first_call}

@@ -5,11 +5,11 @@ use Rattle.fs_queue.specs.Taking.{readable, total_len}
 use Rattle.fuse_fs.specs.Calls.{FileCall}
 use Rattle.fuse_values.specs.Values.{call_of}
 use Rattle.fuse_values.specs.declared.call.FileCall as made_call
-use Rattle.virtiofsd_fuse.specs.Grammar.{Asks, FileCommand, Lists, Meaning, One, Starts, meaning}
-use Rattle.virtiofsd_fuse.specs.Listings.{ListRequest}
-use Rattle.virtiofsd_fuse.specs.Serving.{ServedMessage, Setting, served, setting}
-use Rattle.virtiofsd_fuse.specs.Serving as serving_words
-use Rattle.virtiofsd_fuse.proofs.Serve.{served_fits}
+use Rattle.server_meanings.specs.Grammar.{Asks, FileCommand, Lists, Meaning, One, Starts, meaning}
+use Rattle.server_meanings.specs.Listings.{ListRequest}
+use Rattle.server_meanings.specs.Serving.{ServedMessage, Setting, served, setting}
+use Rattle.server_meanings.specs.Serving as serving_words
+use Rattle.server_meanings.proofs.Serve.{served_fits}
 use Rattle.server_phases.specs.Asking.{IsDecoded, IsRequestFront}
 use Rattle.server_phases.specs.Gathering.{IsListingFor}
 use Rattle.server_phases.specs.Waiting.{first_call}

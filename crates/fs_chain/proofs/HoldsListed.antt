@@ -2,10 +2,10 @@
 use Rattle.std.proofs.Common.{◌≡◌, ◌+◌, ℕ, List, [], ◌∷◌, ◌++◌, length, take, Some, Result, Ok, Err, IsTrue, IfOk, refl, subst, sym, ap}
 use Rattle.std.proofs.Common.{◌∙◌, inl, inr, length-append, Bool, true, false}
 use Rattle.fuse_fs.specs.Calls.{FileAnswer, FileCall, suits, Entries}
-use Rattle.virtiofsd_fuse.specs.Grammar.{Asks, Lists, Meaning, meaning, FileCommand}
-use Rattle.virtiofsd_fuse.specs.Listings.{ListRequest, readdir_call}
-use Rattle.virtiofsd_fuse.specs.Serving.{Setting, ServedMessage, commanded, served, setting}
-use Rattle.virtiofsd_fuse.proofs.Serve.{served_fits}
+use Rattle.server_meanings.specs.Grammar.{Asks, Lists, Meaning, meaning, FileCommand}
+use Rattle.server_meanings.specs.Listings.{ListRequest, readdir_call}
+use Rattle.server_meanings.specs.Serving.{Setting, ServedMessage, commanded, served, setting}
+use Rattle.server_meanings.proofs.Serve.{served_fits}
 use Rattle.server_replies.specs.WholeReplies.{listing_bytes}
 use Rattle.server_phases.specs.Gathering.{Brought, Holds, IsListingFor, StaysBut, added_found, added_plain, all_bytes, all_found}
 use Rattle.server_phases.specs.Gathering.{entries_of, is_list_command}

@@ -2,10 +2,10 @@
 use Rattle.std.proofs.Common.{◌≡◌, ℕ, Bool, List, [], ◌∷◌, ◌++◌, length, None, append_assoc, append-nil, refl, sym, ap, ◌∙◌, arith, ◌-◌}
 use Rattle.fuse_fs.specs.Calls.{Done, Entries, FileAnswer, FileCall, Forget, HasEntry, Listed, Lookup}
 use Rattle.server_replies.specs.Entries.{EIO, EOVERFLOW}
-use Rattle.virtiofsd_fuse.specs.Grammar.{Asks, Lists}
-use Rattle.virtiofsd_fuse.specs.Listings as asked
-use Rattle.virtiofsd_fuse.specs.Listings.{ListingResult, list_entries, readdir_call}
-use Rattle.virtiofsd_fuse.specs.Serving.{ServedMessage, Setting, served}
+use Rattle.server_meanings.specs.Grammar.{Asks, Lists}
+use Rattle.server_meanings.specs.Listings as asked
+use Rattle.server_meanings.specs.Listings.{ListingResult, list_entries, readdir_call}
+use Rattle.server_meanings.specs.Serving.{ServedMessage, Setting, served}
 use Rattle.server_phases.specs.Gathering.{Brought, Holds, IsListingFor, all_bytes, all_found, entries_of, forget_listed, found_of}
 use Rattle.server_phases.specs.Gathering.{is_looked_up, look_up, look_ups, node_of}
 use Rattle.server_phases.specs.declared.listing.Listing.{Listing}

@@ -8,10 +8,10 @@ use Rattle.fuse_fs.specs.Calls.{FileCall, FileAnswer, Listed, Lookup, Forget, Ha
 use Rattle.server_replies.specs.Entries.{is_dot}
 use Rattle.server_replies.specs.WholeReplies.{reply_bytes, listing_bytes}
 use Rattle.server_replies.proofs.ReplyLemmas.{length_reply}
-use Rattle.virtiofsd_fuse.specs.Grammar.{FileCommand, Lists}
-use Rattle.virtiofsd_fuse.specs.Listings as asked
-use Rattle.virtiofsd_fuse.specs.Listings.{ListingResult, list_entries, readdir_call}
-use Rattle.virtiofsd_fuse.specs.Serving.{Setting, ServedMessage, commanded, list_ended, replied}
+use Rattle.server_meanings.specs.Grammar.{FileCommand, Lists}
+use Rattle.server_meanings.specs.Listings as asked
+use Rattle.server_meanings.specs.Listings.{ListingResult, list_entries, readdir_call}
+use Rattle.server_meanings.specs.Serving.{Setting, ServedMessage, commanded, list_ended, replied}
 use Rattle.server_phases.specs.declared.listing.Listing.{Listing}
 use Rattle.server_phases.specs.declared.listing.ListingReply.{ListingReply}
 use Rattle.server_phases.specs.declared.listing.NotAdded as reason

@@ -2,7 +2,7 @@
 use Rattle.std.proofs.Common.{◌≡◌, List, [], ◌∷◌, map, refl, sym, ap, ◌∙◌}
 use Rattle.fs_queue.specs.Queue.{Queue}
 use Rattle.fs_record.proofs.ReadingLemmas.{one_reading}
-use Rattle.virtiofsd_fuse.specs.Serving.{May}
+use Rattle.server_meanings.specs.Serving.{May}
 use Rattle.live_machine.specs.Several.{LiveQueue}
 use Rattle.fs_chain.specs.Holds.{live_of}
 use Rattle.fs_chain.specs.declared.queue.QueueState.{QueueState}

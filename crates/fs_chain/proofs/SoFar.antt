@@ -4,10 +4,10 @@ use Rattle.std.proofs.Common.{nat_lt, if◌then◌else◌, refl, sym, ap, ◌∙
 use Rattle.std.proofs.lemmas.List.{map-append}
 use Rattle.fuse_fs.specs.Calls.{Entries, FileAnswer, FileCall, HasEntry, Listed, Lookup}
 use Rattle.server_replies.specs.Entries.{is_dot, no_node}
-use Rattle.virtiofsd_fuse.specs.Grammar.{Asks, Lists, Meaning}
-use Rattle.virtiofsd_fuse.specs.Listings as asked
-use Rattle.virtiofsd_fuse.specs.Listings.{ListingResult, after_call, forget_lookup, list_entries, readdir_call, with_entry}
-use Rattle.virtiofsd_fuse.specs.Serving.{Setting, list_ended, replied, served}
+use Rattle.server_meanings.specs.Grammar.{Asks, Lists, Meaning}
+use Rattle.server_meanings.specs.Listings as asked
+use Rattle.server_meanings.specs.Listings.{ListingResult, after_call, forget_lookup, list_entries, readdir_call, with_entry}
+use Rattle.server_meanings.specs.Serving.{Setting, list_ended, replied, served}
 use Rattle.server_phases.specs.Gathering.{Brought, Holds, IsListingFor, all_bytes, all_found, entries_of, is_looked_up, look_up, look_ups}
 use Rattle.server_phases.specs.declared.listing.Listing.{Listing}
 use Rattle.server_phases.proofs.Gathered.{listed_all}

@@ -2,8 +2,8 @@
 use Rattle.std.specs.Prelude.{◌≡◌, ◌⊎◌, ℕ, Bool, true, false, List, Some, None}
 use Rattle.fuse_values.specs.declared.answer.FileAnswer.{FileAnswer}
 use Rattle.fuse_values.specs.declared.answer.FileAnswer.TheVariants as value
-use Rattle.virtiofsd_fuse.specs.Grammar.{FileCommand}
-use Rattle.virtiofsd_fuse.specs.Serving.{Setting}
+use Rattle.server_meanings.specs.Grammar.{FileCommand}
+use Rattle.server_meanings.specs.Serving.{Setting}
 use Rattle.server_phases.specs.declared.answering.Answered.{Answered}
 use Rattle.server_phases.specs.declared.answering.AnswerRefusal as why
 use Rattle.server_phases.specs.declared.answering.AnswerRefusal.TheVariants as refused

@@ -5,8 +5,8 @@ use Rattle.fuse_values.specs.declared.call.FileCall.{FileCall}
 use Rattle.fuse_values.specs.Places.{CallStandsIn}
 use Rattle.fuse_values.specs.Values.{call_of}
 use Rattle.server_requests.specs.Fronts.{first_name_at}
-use Rattle.virtiofsd_fuse.specs.Grammar.{Meaning, Asks, FileCommand}
-use Rattle.virtiofsd_fuse.specs.Serving.{Setting}
+use Rattle.server_meanings.specs.Grammar.{Meaning, Asks, FileCommand}
+use Rattle.server_meanings.specs.Serving.{Setting}
 use Rattle.server_phases.specs.declared.asking.DecodedRequest.{DecodedRequest}
 use Rattle.server_phases.specs.declared.asking.DecodedRequest.TheVariants as asked
 use Rattle.server_phases.specs.declared.listing.Listing.{Listing}

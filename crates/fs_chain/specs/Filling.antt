@@ -7,7 +7,7 @@ use Rattle.vm_memory.specs.Memory.{located, location}
 use Rattle.fs_queue.specs.Returning.{Store}
 use Rattle.fs_regions.specs.Places.{places_in}
 use Rattle.fs_regions.specs.Windows.{IsRangeFrom, IsWindowFrom}
-use Rattle.virtiofsd_fuse.specs.Serving.{May}
+use Rattle.server_meanings.specs.Serving.{May}
 use Rattle.fs_chain.specs.declared.chain_handle.ChainHandle.{ChainHandle}
 use Rattle.plain_machine.specs.StepBy.{byte_store}
 use Rattle.live_machine.specs.Live.{Abandoned, FillsBuffer, Happens, LiveState, InFlightChain, Phase}

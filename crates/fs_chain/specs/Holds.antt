@@ -23,9 +23,9 @@ use Rattle.fuse_values.specs.Answers.{answer_of}
 use Rattle.fuse_values.specs.Values.{call_of}
 use Rattle.fuse_values.specs.declared.answer.FileAnswer as made_answer
 use Rattle.fuse_values.specs.declared.call.FileCall as made_call
-use Rattle.virtiofsd_fuse.specs.Grammar.{Asks, Lists, meaning}
-use Rattle.virtiofsd_fuse.specs.Listings.{ListRequest}
-use Rattle.virtiofsd_fuse.specs.Serving.{ServedMessage, served, setting}
+use Rattle.server_meanings.specs.Grammar.{Asks, Lists, meaning}
+use Rattle.server_meanings.specs.Listings.{ListRequest}
+use Rattle.server_meanings.specs.Serving.{ServedMessage, served, setting}
 use Rattle.server_phases.specs.Answering.{ReportsBytes, forget_calls}
 use Rattle.server_phases.specs.Asking.{AsksCall, IsRequestFront}
 use Rattle.server_phases.specs.Gathering.{Brought, IsListingFor}

@@ -5,9 +5,9 @@ use Rattle.std.specs.Prelude.{Some}
 use Rattle.fs_queue.specs.Taking.{addresses_of, writable}
 use Rattle.fuse_fs.specs.Calls.{FileAnswer, FileCall, HasEntry, Listed, suits}
 use Rattle.server_replies.specs.Entries.{EIO, EOVERFLOW, is_dot}
-use Rattle.virtiofsd_fuse.specs.Grammar.{Lists, meaning}
-use Rattle.virtiofsd_fuse.specs.Grammar as grammar
-use Rattle.virtiofsd_fuse.specs.Listings.{ListRequest, readdir_call}
+use Rattle.server_meanings.specs.Grammar.{Lists, meaning}
+use Rattle.server_meanings.specs.Grammar as grammar
+use Rattle.server_meanings.specs.Listings.{ListRequest, readdir_call}
 use Rattle.server_phases.specs.Gathering.{Brought, EndsList, FailsList, IsListingFor}
 use Rattle.server_phases.specs.Gathering as gathering
 use Rattle.server_phases.specs.declared.listing.Listing.{Listing}

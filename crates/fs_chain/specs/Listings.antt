@@ -5,8 +5,8 @@ use Rattle.std.specs.Option.{option_or}
 use Rattle.fuse_fs.specs.Calls.{Entries, Failed, Listed}
 use Rattle.server_replies.specs.Entries.{is_dot}
 use Rattle.server_replies.specs.WholeReplies.{listing_bytes}
-use Rattle.virtiofsd_fuse.specs.Grammar.{FileCommand}
-use Rattle.virtiofsd_fuse.specs.Serving.{Setting, commanded}
+use Rattle.server_meanings.specs.Grammar.{FileCommand}
+use Rattle.server_meanings.specs.Serving.{Setting, commanded}
 use Rattle.server_phases.specs.declared.listing.Listing.{Listing}
 use Rattle.server_phases.specs.declared.listing.ListingReply.{ListingReply}
 use Rattle.server_phases.specs.declared.listing.NotAdded as reason

@@ -4,7 +4,7 @@ use Rattle.std.specs.List.{AllByRecursion}
 use Rattle.vm_memory.specs.Memory.{Memory}
 use Rattle.fs_queue.specs.Queue.{Queue}
 use Rattle.fs_record.specs.Record.{IsRecord, Version}
-use Rattle.virtiofsd_fuse.specs.Serving.{May}
+use Rattle.server_meanings.specs.Serving.{May}
 use Rattle.fs_chain.specs.Holds.{live_of}
 use Rattle.fs_chain.specs.declared.queue.QueueState.{QueueState}
 use Rattle.live_machine.specs.Live.{Happens, HasNoneInFlight, HasValidMaximum, LiveState, MovesDevice}

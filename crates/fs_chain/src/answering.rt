@@ -1,7 +1,7 @@
 //! The answer to a chain's file call.
 
 ghost use Rattle.std.specs.Prelude.{◌≡◌, IfOk, IfErr, OnOk, OnErr};
-ghost use Rattle.virtiofsd_fuse.specs.Serving.{setting};
+ghost use Rattle.server_meanings.specs.Serving.{setting};
 ghost use Rattle.fs_chain.specs.Answers.{AnswerFails, CanBeGiven, IfWaits, IsGiven, IsNotTaken};
 ghost use Rattle.fs_chain.specs.Answers.{RefusesAnswer, IsWaiting, data_len, refusal_error, fits, replied_of};
 ghost use Rattle.fs_chain.specs.Answers.{reply_of};

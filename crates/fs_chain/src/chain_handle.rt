@@ -14,9 +14,9 @@ use crate::state::ChainState;
 use crate::window_cursor::WindowCursor;
 use fs_queue::{Descriptor, Descriptors, MOST_LIMIT};
 use fs_regions::{GuestMap, window_from};
+use server_meanings::MAX_REQUEST_LEN;
 use server_phases::Session;
 use std::alloc::Global;
-use virtiofsd_fuse::MAX_REQUEST_LEN;
 use vm_bitmaps::PAGE_SIZE;
 use vm_memory_core::VolatileSlice;
 

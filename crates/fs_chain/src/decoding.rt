@@ -9,8 +9,8 @@ ghost use Rattle.fuse_in.specs.declared.session.InHeader.{InHeader};
 ghost use Rattle.fuse_values.specs.declared.call.FileCall as value;
 ghost use Rattle.server_requests.specs.Fronts.{first_name_at};
 ghost use Rattle.server_requests.specs.Reading.{record_parser};
-ghost use Rattle.virtiofsd_fuse.specs.Grammar.{Meaning, meaning};
-ghost use Rattle.virtiofsd_fuse.specs.Serving.{Setting, setting};
+ghost use Rattle.server_meanings.specs.Grammar.{Meaning, meaning};
+ghost use Rattle.server_meanings.specs.Serving.{Setting, setting};
 ghost use Rattle.server_phases.specs.Asking.{AsksCall, HasAskerByFront, IsAskedBy, IsRequestFront, IsDecoded};
 ghost use Rattle.server_phases.specs.Asking.{DecodedStandsIn, FrontStandsIn, IsDecodedByFront, is_decoded};
 ghost use Rattle.fs_chain.specs.Decoding.{IfUndecoded, IsPreservedFor, KeepsCall, ReportsMeaning, wanted};
@@ -24,9 +24,9 @@ use crate::chain_handle::ChainHandle;
 use crate::error::ChainError;
 use crate::state::{ChainReply, ChainState, InFlight};
 use fuse_values::FileCall;
+use server_meanings::REQUEST_FRONT;
 use server_phases::{AskedFront, DecodedRequest, Front, Listing, Session, Waiting};
 use server_segments::Error;
-use virtiofsd_fuse::REQUEST_FRONT;
 
 /// The result of decoding a request.
 #[derive(Drop)]

@@ -14,8 +14,8 @@ use crate::error::ChainError;
 use crate::state::ChainState;
 use fs_queue::MOST_LIMIT;
 use fs_regions::range_from;
+use server_meanings::MAX_REQUEST_LEN;
 use server_phases::{Awaits, Session};
-use virtiofsd_fuse::MAX_REQUEST_LEN;
 use vm_memory_core::Permissions;
 
 impl ChainHandle {

@@ -9,8 +9,8 @@ use Rattle.server_phases.specs.Asking.{IsRequestFront}
 use Rattle.server_phases.specs.declared.session.Session.{Session}
 use Rattle.server_segments.specs.declared.error.Error.TheVariants.{EncodeMessage}
 use Rattle.server_segments.specs.Errors.{error_number}
-use Rattle.virtiofsd_fuse.specs.Grammar.{known_options, meaning}
-use Rattle.virtiofsd_fuse.specs.Serving.{setting}
+use Rattle.server_meanings.specs.Grammar.{known_options, meaning}
+use Rattle.server_meanings.specs.Serving.{setting}
 use Rattle.fs_chain.specs.declared.answering.Replied.{Replied}
 use Rattle.fs_chain.specs.declared.decoding.Decoded.{Decoded}
 use Rattle.fs_chain.specs.declared.decoding.Decoded.TheVariants as reports

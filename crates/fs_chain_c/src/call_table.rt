@@ -8,7 +8,7 @@ use crate::call::{FsCall, HEADER, attr_reported, behind_header, data_len, span};
 use bitflags::Flags;
 use fuse_values::FileCall;
 use fuse_wire::Opcode;
-use virtiofsd_fuse::REQUEST_FRONT;
+use server_meanings::REQUEST_FRONT;
 
 // A match over all calls. A row of `of_a_node` is a call that a process makes on a node: the fields to match,
 // the answer's kind, and the fields to set. A row of `others` has the fields to match, the call to start

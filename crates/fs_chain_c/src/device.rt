@@ -5,7 +5,7 @@ ghost use Rattle.server_replies.specs.PageSizes.{is_page_size};
 ghost use Rattle.fs_chain_c.specs.Memory.{IsDevice};
 
 use fs_queue::MOST_LIMIT;
-use virtiofsd_fuse::MAX_REQUEST_LEN;
+use server_meanings::MAX_REQUEST_LEN;
 
 /// The sizes that a guest's pages may have.
 const PAGE_SIZES: [u32; 5] = [4 << 10, 8 << 10, 16 << 10, 32 << 10, 64 << 10];

@@ -19,7 +19,7 @@ use Rattle.vm_memory.specs.Layout.{Region, fits, overlap, is_region, with_region
 use Rattle.vm_memory.specs.Memory.{Memory, addresses, byte, reach, physical, table_in, table_of, stored_all}
 use Rattle.vm_memory.proofs.Places.{length-addresses}
 use Rattle.fs_queue.specs.Queue.{Queue, fresh}
-use Rattle.virtiofsd_fuse.specs.Serving.{May}
+use Rattle.server_meanings.specs.Serving.{May}
 use Rattle.plain_machine.specs.declared.refusal.Refusal.{Refusal}
 use Rattle.plain_machine.specs.declared.refusal.Refusal.TheVariants as why
 use Rattle.plain_machine.specs.Step.{State, with_queue}

@@ -3,7 +3,7 @@
 use Rattle.std.specs.Prelude.{◌≡◌, ℕ, Bool, true, false, not, IsTrue, List, map, Some}
 use Rattle.std.specs.List.{list_all}
 use Rattle.vm_memory_core.specs.Host.{Host, Block, Place, with_blocks}
-use Rattle.virtiofsd_fuse.specs.Serving.{May}
+use Rattle.server_meanings.specs.Serving.{May}
 use Rattle.plain_machine.specs.Step.{State}
 use Rattle.plain_machine.specs.Run as run
 use Rattle.plain_machine.specs.Run.{Command, Answer, Turns, RunReported, with_host}

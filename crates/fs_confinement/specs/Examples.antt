@@ -10,7 +10,7 @@ use Rattle.fs_queue.specs.declared.fault.QueueError.TheVariants as queue_error
 use Rattle.fs_queue.specs.Queue.{with_stop}
 use Rattle.fs_queue.specs.Chain.{path, found}
 use Rattle.fs_queue.specs.Taking.{offer}
-use Rattle.virtiofsd_fuse.specs.Examples.{le16}
+use Rattle.server_meanings.specs.Examples.{le16}
 use Rattle.plain_machine.specs.Step.{State, Exchanged}
 use Rattle.plain_machine.specs.declared.error.DeviceError.TheVariants as device_error
 use Rattle.plain_machine.specs.declared.refusal.Refusal.TheVariants as why

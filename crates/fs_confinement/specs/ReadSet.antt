@@ -18,7 +18,7 @@ use Rattle.fs_queue.specs.Chain.{Visit, entry_address, Found, IsChain, HasFault,
 use Rattle.fs_queue.specs.Loads.{reads_entry}
 use Rattle.fs_queue.specs.Taking.{Offer, Idle, Refuses, Offers, IsRequest, CannotFetch, readable, room_of}
 use Rattle.fs_queue.specs.Taking.{offer, addresses_of}
-use Rattle.virtiofsd_fuse.specs.Serving.{May}
+use Rattle.server_meanings.specs.Serving.{May}
 use Rattle.plain_machine.specs.declared.error.DeviceError.{DeviceError}
 use Rattle.plain_machine.specs.MarkedPages.{returned_addresses}
 use Rattle.plain_machine.specs.Step as step

@@ -13,11 +13,11 @@ use Rattle.server_calls.specs.Requests.{options_after, forget_entry}
 use Rattle.fs_queue.specs.declared.fault.ChainFault.{ChainFault}
 use Rattle.fs_queue.specs.Queue.{Queue}
 use Rattle.fs_queue.specs.Taking.{Offer, IsRequest, CannotFetch, Offers}
-use Rattle.virtiofsd_fuse.specs.Grammar.{Meaning, Replies, One, Starts, Lists, meaning}
-use Rattle.virtiofsd_fuse.specs.Grammar as grammar
-use Rattle.virtiofsd_fuse.specs.Listings.{ListRequest, list_entries, readdir_call}
-use Rattle.virtiofsd_fuse.specs.Serving.{May, ServedMessage, Setting, setting, served, no_reply, answer_bytes, start_options}
-use Rattle.virtiofsd_fuse.specs.Serving.{start_answered, list_ended}
+use Rattle.server_meanings.specs.Grammar.{Meaning, Replies, One, Starts, Lists, meaning}
+use Rattle.server_meanings.specs.Grammar as grammar
+use Rattle.server_meanings.specs.Listings.{ListRequest, list_entries, readdir_call}
+use Rattle.server_meanings.specs.Serving.{May, ServedMessage, Setting, setting, served, no_reply, answer_bytes, start_options}
+use Rattle.server_meanings.specs.Serving.{start_answered, list_ended}
 use Rattle.server_replies.proofs.ReplyLemmas.{length_reply, length_error}
 use Rattle.plain_machine.specs.declared.error.DeviceError.{DeviceError}
 use Rattle.plain_machine.specs.declared.refusal.Refusal.TheVariants as why

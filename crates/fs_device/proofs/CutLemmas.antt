@@ -8,7 +8,7 @@ use Rattle.fs_queue.specs.declared.fault.ChainFault.TheVariants.{OverLimit, Requ
 use Rattle.fs_queue.specs.Taking.{readable, writable, total_len, all_reach, IsRequest, CannotFetch, request_and_room, addresses_of}
 use Rattle.fs_queue.proofs.TakeLemmas.{length-addresses_of}
 use Rattle.fs_queue.proofs.OfferedLemmas.{offered_fetches}
-use Rattle.virtiofsd_fuse.specs.Serving.{May}
+use Rattle.server_meanings.specs.Serving.{May}
 use Rattle.fs_device.specs.Laws.{joined_request, CutsDoNotMatter, OffersAreServedAlike}
 use Rattle.plain_machine.specs.Step.{ServesRequest}
 

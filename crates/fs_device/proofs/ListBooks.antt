@@ -9,8 +9,8 @@ use Rattle.fuse_fs.specs.declared.answers.Entry.{Entry}
 use Rattle.fuse_fs.specs.Calls.{FileCall, FileAnswer, Listed, suits}
 use Rattle.fuse_fs.specs.Calls as call
 use Rattle.server_replies.specs.Entries.{Fit, FitsIn, fit_of, entry_len, entry_bytes, no_node, is_dot}
-use Rattle.virtiofsd_fuse.specs.Listings.{ListRequest, ListingResult, Next, placed, forget_lookup, with_entry, after_call, looked_up}
-use Rattle.virtiofsd_fuse.specs.Listings.{list_entry, list_entries}
+use Rattle.server_meanings.specs.Listings.{ListRequest, ListingResult, Next, placed, forget_lookup, with_entry, after_call, looked_up}
+use Rattle.server_meanings.specs.Listings.{list_entry, list_entries}
 use Rattle.plain_machine.specs.Step.{Calls, EachSuits, calls_alone, answers_alone}
 use Rattle.fs_device.specs.Books.{entry_count, forget_count, nodes_listed}
 use Rattle.fs_device.proofs.NodeLemmas.{fits_in_fits, length_entry, nodes_more}

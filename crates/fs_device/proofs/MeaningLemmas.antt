@@ -17,13 +17,13 @@ use Rattle.fuse_fs.specs.Replies.{open_out_of}
 use Rattle.fuse_fs.specs.Calls.{FileCall, FileAnswer, AnswerForm, kind_of, suits, is_of}
 use Rattle.fuse_fs.specs.Calls as call
 use Rattle.server_requests.specs.Reading.{Parsed, Sends, needs, record_parser, ◌>>◌}
-use Rattle.virtiofsd_fuse.specs.Grammar as grammar
-use Rattle.virtiofsd_fuse.specs.Grammar.{Meaning, Replies, Asks, FileCommand, One, Starts, Lists, Given, given, row, row_of, ended, meant}
-use Rattle.virtiofsd_fuse.specs.Grammar.{meaning, with_header}
+use Rattle.server_meanings.specs.Grammar as grammar
+use Rattle.server_meanings.specs.Grammar.{Meaning, Replies, Asks, FileCommand, One, Starts, Lists, Given, given, row, row_of, ended, meant}
+use Rattle.server_meanings.specs.Grammar.{meaning, with_header}
 use Rattle.server_replies.specs.WholeReplies.{error_bytes, reply_bytes}
 use Rattle.server_calls.specs.Requests.{is_silent}
-use Rattle.virtiofsd_fuse.specs.Serving.{answer_bytes}
-use Rattle.virtiofsd_fuse.proofs.EachMeaning.{Each, MayAsk, like, like_of, meaning_holds, row_holds}
+use Rattle.server_meanings.specs.Serving.{answer_bytes}
+use Rattle.server_meanings.proofs.EachMeaning.{Each, MayAsk, like, like_of, meaning_holds, row_holds}
 use Rattle.fs_device.specs.Books.{entry_count, forget_count, forgets_meant, opcode_in, replies_entry, lists_nodes, nodes_of, nodes_in}
 use Rattle.fs_device.proofs.NodeLemmas.{drop_reply, drop_error, no_nodes, none_in_nothing, one_node}
 

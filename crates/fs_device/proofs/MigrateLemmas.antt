@@ -21,7 +21,7 @@ use Rattle.fs_record.specs.Laws.{OneReading}
 use Rattle.fs_record.specs.Record.{Second, IsRecordFor, IsSavable}
 use Rattle.fs_device.specs.DevicePartsView.{DeviceParts, device_bytes}
 use Rattle.fs_record.specs.Streams.{Leaves}
-use Rattle.virtiofsd_fuse.specs.Serving.{May}
+use Rattle.server_meanings.specs.Serving.{May}
 use Rattle.fs_device.specs.declared.command.Answer as said
 use Rattle.fs_device.specs.declared.command.Command as fetched
 use Rattle.plain_machine.specs.Step.{State}

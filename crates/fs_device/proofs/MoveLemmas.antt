@@ -18,7 +18,7 @@ use Rattle.fs_device.proofs.TrackLemmas.{tracks_copy, tracks_harvest, tracks_sto
 use Rattle.plain_machine.proofs.UsedLemmas.{step_stores}
 use Rattle.fs_device.proofs.ReportingLemmas.{end_keeps}
 use Rattle.fs_record.proofs.ReadingLemmas.{one_reading}
-use Rattle.virtiofsd_fuse.specs.Serving.{May}
+use Rattle.server_meanings.specs.Serving.{May}
 use Rattle.plain_machine.specs.declared.error.DeviceError.{DeviceError}
 use Rattle.plain_machine.specs.declared.refusal.Refusal.TheVariants as why
 use Rattle.plain_machine.specs.Step.{State, Exchange, Calls, Step, Exchanged}

@@ -19,7 +19,7 @@ use Rattle.plain_machine.proofs.ApartLemmas.{front_last}
 use Rattle.virtiofsd_fuse.specs.declared.reads.ReadReply.{ReadReply}
 use Rattle.virtiofsd_fuse.specs.declared.reads.ReadRequest.{ReadRequest}
 use Rattle.virtiofsd_fuse.specs.declared.server.Server.{Server}
-use Rattle.virtiofsd_fuse.specs.Grammar.{Meaning, meaning}
+use Rattle.server_meanings.specs.Grammar.{Meaning, meaning}
 use Rattle.virtiofsd_fuse.specs.ReadApart.{is_read, read_meaning, read_request}
 use Rattle.fuse_in.specs.Shapes.{made}
 use Rattle.fuse_in.specs.Records.{in_header, read_in}
@@ -27,7 +27,8 @@ use Rattle.fuse_in.specs.declared.session.InHeader.{InHeader}
 use Rattle.fuse_wire.specs.Opcodes.{opcode_of}
 use Rattle.server_segments.specs.declared.error.Error.TheVariants.{DecodeMessage}
 use Rattle.server_requests.specs.Reading.{Parsed, Parser, Faults, and_then, give, needs, record_parser, ◌>>=◌, ◌>>◌}
-use Rattle.virtiofsd_fuse.specs.Serving.{May, Handles, ServerHandles, setting}
+use Rattle.server_meanings.specs.Serving.{May, Handles, setting}
+use Rattle.virtiofsd_fuse.specs.ServerHandles.{ServerHandles}
 use Rattle.plain_machine.specs.Step.{Calls, Exchange}
 use Rattle.fs_device.specs.DeviceView.{AnswersRequest, ServesChain, request_of, server_state, state_of}
 use Rattle.fs_device.specs.ReplyFront.{AnswersAt, AnswersFront, front_bytes}

@@ -12,8 +12,8 @@ use Rattle.fs_queue.specs.Queue.{Queue, fresh}
 use Rattle.fs_queue.specs.Taking.{Offer, IsRequest, CannotFetch, Offers}
 use Rattle.fuse_fs.specs.Calls.{FileCall, FileAnswer, FileRun}
 use Rattle.server_segments.specs.declared.error.Error.{Error}
-use Rattle.virtiofsd_fuse.specs.Grammar.{meaning}
-use Rattle.virtiofsd_fuse.specs.Serving.{May, ServedMessage, setting, served}
+use Rattle.server_meanings.specs.Grammar.{meaning}
+use Rattle.server_meanings.specs.Serving.{May, ServedMessage, setting, served}
 use Rattle.plain_machine.specs.declared.error.DeviceError.{DeviceError}
 use Rattle.plain_machine.specs.declared.error.DeviceError.TheVariants as device
 use Rattle.plain_machine.specs.declared.fault.Fault.{Fault}

@@ -8,9 +8,9 @@ use Rattle.fs_queue.specs.Taking.{RequestAndRoom, IsRequest, CannotFetch}
 use Rattle.fs_queue.specs.Windows.{HoldsChain}
 use Rattle.fs_queue.proofs.TakeLemmas.{length-located}
 use Rattle.server_segments.specs.declared.error.Error.{Error}
-use Rattle.virtiofsd_fuse.specs.Grammar.{meaning}
-use Rattle.virtiofsd_fuse.specs.Serving.{May, setting, served_of, Handles, is_memory}
-use Rattle.virtiofsd_fuse.specs.Serving as server
+use Rattle.server_meanings.specs.Grammar.{meaning}
+use Rattle.server_meanings.specs.Serving.{May, setting, served_of, Handles, is_memory}
+use Rattle.server_meanings.specs.Serving as server
 use Rattle.plain_machine.specs.declared.fault.Fault.{Fault}
 use Rattle.plain_machine.specs.declared.fault.Fault.TheVariants as fault
 use Rattle.plain_machine.specs.Step.{Exchange, Calls, ServesRequest}

@@ -8,8 +8,8 @@ use Rattle.fuse_wire.specs.declared.opcodes.Opcode.TheVariants as op
 use Rattle.fuse_wire.specs.Opcodes.{opcode_of}
 use Rattle.fuse_fs.specs.Calls.{FileCall, FileAnswer, Forget, BatchForget, HasEntry, Created}
 use Rattle.server_replies.specs.Entries.{entry_len}
-use Rattle.virtiofsd_fuse.specs.Grammar.{Meaning, Asks, One, meaning}
-use Rattle.virtiofsd_fuse.specs.Serving.{May}
+use Rattle.server_meanings.specs.Grammar.{Meaning, Asks, One, meaning}
+use Rattle.server_meanings.specs.Serving.{May}
 use Rattle.plain_machine.specs.Step.{State}
 use Rattle.plain_machine.specs.Run.{Turn, Turns, Command, Answer, RunReported}
 

@@ -3,7 +3,7 @@ use Rattle.std.specs.Prelude.{◌≡◌, ◌<◌, ℕ, Bool, IsTrue, List, lengt
 use Rattle.std.specs.Prelude.{slice_get}
 use Rattle.fs_queue.specs.declared.fault.QueueError.TheVariants as stop
 use Rattle.fs_device.specs.PageView.{page_view}
-use Rattle.virtiofsd_fuse.specs.Serving.{May}
+use Rattle.server_meanings.specs.Serving.{May}
 use Rattle.plain_machine.specs.declared.error.DeviceError.{DeviceError}
 use Rattle.plain_machine.specs.declared.error.DeviceError.TheVariants as device
 use Rattle.fs_device.specs.declared.exchange.Exchange as code

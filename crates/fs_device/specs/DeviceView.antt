@@ -3,7 +3,7 @@ use Rattle.std.specs.Prelude.{◌≡◌, ℕ, Bool, List, [], length, Option, So
 use Rattle.vm_memory.specs.Memory.{Memory}
 use Rattle.fs_queue.specs.Taking.{RequestAndRoom, IsRequest, CannotFetch}
 use Rattle.virtiofsd_fuse.specs.declared.server.Server.{Server}
-use Rattle.virtiofsd_fuse.specs.Serving.{May, ServedMessage}
+use Rattle.server_meanings.specs.Serving.{May, ServedMessage}
 use Rattle.plain_machine.specs.declared.error.DeviceError.{DeviceError}
 use Rattle.fs_device.specs.declared.exchange.Exchange as code
 use Rattle.plain_machine.specs.declared.fault.Fault.{Fault}

@@ -15,10 +15,10 @@ use Rattle.server_requests.specs.Fronts.{counted}
 use Rattle.server_requests.specs.Reading.{record_parser, last_name}
 use Rattle.server_replies.specs.Entries.{no_node, fit_of, dirent_bytes, node_bytes}
 use Rattle.server_replies.specs.WholeReplies.{error_bytes, reply_bytes}
-use Rattle.virtiofsd_fuse.specs.Examples.{le16, le32, le64, zeros, nobody, in_header_bytes}
-use Rattle.virtiofsd_fuse.specs.Grammar.{meaning, meant, row}
-use Rattle.virtiofsd_fuse.specs.Listings.{list_entries}
-use Rattle.virtiofsd_fuse.specs.Serving.{May, ServedMessage, served, setting}
+use Rattle.server_meanings.specs.Examples.{le16, le32, le64, zeros, nobody, in_header_bytes}
+use Rattle.server_meanings.specs.Grammar.{meaning, meant, row}
+use Rattle.server_meanings.specs.Listings.{list_entries}
+use Rattle.server_meanings.specs.Serving.{May, ServedMessage, served, setting}
 use Rattle.plain_machine.specs.declared.error.DeviceError.TheVariants as device_error
 use Rattle.plain_machine.specs.declared.fault.Fault.TheVariants as fault
 use Rattle.plain_machine.specs.declared.refusal.Refusal.TheVariants as why

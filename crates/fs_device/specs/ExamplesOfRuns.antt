@@ -19,8 +19,8 @@ use Rattle.fs_queue.specs.Taking.{offer}
 use Rattle.vm_values.specs.Fields as fields
 use Rattle.server_requests.specs.Reading.{record_parser}
 use Rattle.server_replies.specs.WholeReplies.{error_bytes}
-use Rattle.virtiofsd_fuse.specs.Examples.{le16, zeros}
-use Rattle.virtiofsd_fuse.specs.Grammar.{meaning, meant}
+use Rattle.server_meanings.specs.Examples.{le16, zeros}
+use Rattle.server_meanings.specs.Grammar.{meaning, meant}
 use Rattle.plain_machine.specs.declared.error.DeviceError.TheVariants as device_error
 use Rattle.plain_machine.specs.declared.refusal.Refusal.TheVariants as why
 use Rattle.plain_machine.specs.Step.{State, Exchanged, Step}

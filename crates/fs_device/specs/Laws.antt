@@ -4,7 +4,7 @@ use Rattle.vm_memory.specs.Memory.{Memory, bytes}
 use Rattle.fs_queue.specs.Queue.{Queue}
 use Rattle.fs_queue.specs.Chain.{Descriptor, IsChain, chain}
 use Rattle.fs_queue.specs.Taking.{readable, writable, total_len, IsRequest, request_and_room, Offers, offer}
-use Rattle.virtiofsd_fuse.specs.Serving.{May, ServedMessage}
+use Rattle.server_meanings.specs.Serving.{May, ServedMessage}
 use Rattle.plain_machine.specs.Step.{Calls, ServesRequest}
 
 -- the joined bytes of a chain's request

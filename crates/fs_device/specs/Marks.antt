@@ -1,7 +1,7 @@
 -- Marks change nothing else: two states that differ only in marks allow the same runs.
 use Rattle.std.specs.Prelude.{◌≡◌, Bool, false, List, [], ◌∷◌, map}
 use Rattle.vm_memory_core.specs.Host.{Host, unmarked}
-use Rattle.virtiofsd_fuse.specs.Serving.{May}
+use Rattle.server_meanings.specs.Serving.{May}
 use Rattle.plain_machine.specs.Step.{State}
 use Rattle.plain_machine.specs.Run.{Command, Answer, Done, Bytes, NewBlockIs, Served, Copied, Pages}
 use Rattle.plain_machine.specs.Run.{IsRefused, Turns, RunReported, with_host}

@@ -4,7 +4,7 @@ use Rattle.std.specs.List.{flat_map}
 use Rattle.plain_machine.specs.Harvested.{Page}
 use Rattle.fs_device.specs.Applying.{pages_put}
 use Rattle.vm_memory_core.specs.Host.{Host}
-use Rattle.virtiofsd_fuse.specs.Serving.{May}
+use Rattle.server_meanings.specs.Serving.{May}
 use Rattle.fs_device.specs.declared.command.Answer as said
 use Rattle.plain_machine.specs.Step.{State}
 use Rattle.plain_machine.specs.Run.{Command, Image, Harvest, Answer, Copied, Pages, Turns, Run, RunReported}

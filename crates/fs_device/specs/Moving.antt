@@ -9,7 +9,7 @@ use Rattle.fs_queue.specs.Queue.{Queue}
 use Rattle.fs_record.specs.Record.{Version, IsRecord}
 use Rattle.plain_machine.specs.Harvested.{Page}
 use Rattle.fs_device.specs.Applying.{first_refused, pages_put}
-use Rattle.virtiofsd_fuse.specs.Serving.{May}
+use Rattle.server_meanings.specs.Serving.{May}
 use Rattle.plain_machine.specs.Step.{State}
 use Rattle.plain_machine.specs.Run.{Command, NewBlock, Map, Unmap, UnmapAll, SetIommu, Image, Harvest, Answer}
 use Rattle.plain_machine.specs.Run.{Copied, Pages, Run}

@@ -11,8 +11,8 @@ use Rattle.fs_queue.specs.declared.fault.ChainFault.{ChainFault}
 use Rattle.fs_queue.specs.Windows.{HoldsChain, IsEmpty, IsTaken, Taken, room_places}
 use Rattle.server_segments.specs.ReaderAndWriterView.{ReaderView}
 use Rattle.fuse_fs.specs.Lengths.{filled}
-use Rattle.virtiofsd_fuse.specs.WantOfMemory.{may_take_memory}
-use Rattle.virtiofsd_fuse.specs.Serving.{May}
+use Rattle.server_meanings.specs.WantOfMemory.{may_take_memory}
+use Rattle.server_meanings.specs.Serving.{May}
 use Rattle.plain_machine.specs.declared.error.DeviceError.{DeviceError}
 use Rattle.plain_machine.specs.Step.{State, Exchange, Idle, Refused, Calls, Step, after_return}
 use Rattle.plain_machine.specs.declared.fault.Fault.TheVariants as fault

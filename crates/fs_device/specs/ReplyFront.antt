@@ -7,7 +7,7 @@ use Rattle.fs_queue.specs.Windows.{Taken, chain_places}
 use Rattle.fs_queue.specs.Taking.{RequestAndRoom}
 use Rattle.fs_queue.specs.Returning.{PutFrontLast}
 use Rattle.virtiofsd_fuse.specs.declared.server.Server.{Server}
-use Rattle.virtiofsd_fuse.specs.Serving.{May}
+use Rattle.server_meanings.specs.Serving.{May}
 use Rattle.plain_machine.specs.declared.fault.Fault.{Fault}
 use Rattle.fs_device.specs.declared.reply_front.PreparedReply.{PreparedReply}
 use Rattle.fs_device.specs.declared.reply_front.ReplyFront.{ReplyFront}

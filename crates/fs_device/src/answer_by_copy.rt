@@ -18,11 +18,11 @@ pub(crate) struct CopiedReply {
     pub fault: Option<Fault>,
 }
 
-ghost use Rattle.virtiofsd_fuse.specs.Serving.{is_memory};
+ghost use Rattle.server_meanings.specs.Serving.{is_memory};
 ghost use Rattle.fs_device.specs.Answering.{IsAnswered};
 ghost use Rattle.fs_device.specs.DeviceView.{exchange_of, server_state};
 ghost use Rattle.fs_device.specs.Phases.{MayLackToAnswer, ServesBytes, ServesTaken};
-ghost use Rattle.virtiofsd_fuse.specs.WantOfMemory.{may_take_memory};
+ghost use Rattle.server_meanings.specs.WantOfMemory.{may_take_memory};
 
 // Whether the server's error is a failed allocation.
 fn is_memory(error: Error) -> bool

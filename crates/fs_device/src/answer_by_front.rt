@@ -21,8 +21,9 @@ use crate::short_way::read_in_place;
 use fs_queue::{Chain, Taken};
 use fuse_fs::FileSystem;
 use plain_machine::Fault;
+use server_meanings::{REQUEST_FRONT, begins_a_write};
 use std::alloc::{AllocError, Global};
-use virtiofsd_fuse::{REQUEST_FRONT, Reader, Server, Writer, begins_a_write};
+use virtiofsd_fuse::{Reader, Server, Writer};
 use vm_memory_core::HostBlocks;
 
 // The server answers a request by a copy of its front and by the other bytes, which it reads in guest

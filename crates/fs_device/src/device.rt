@@ -12,9 +12,10 @@ use fs_queue::{Queue, QueueLayout, Taken};
 use fuse_fs::FileSystem;
 use fuse_wire::FsOptions;
 use plain_machine::DeviceError;
+use server_meanings::MAX_REQUEST_LEN;
 use std::alloc::Global;
 use std::marker::Model;
-use virtiofsd_fuse::{MAX_REQUEST_LEN, Server};
+use virtiofsd_fuse::Server;
 use vm_memory::GuestMemory;
 use vm_memory_core::HostBlocks;
 
@@ -114,7 +115,7 @@ impl<F: FileSystem> Device<F> {
     }
 
     // The same device with the options and queues of a record: its server goes on with these.
-    #[tactic(auto, using(virtiofsd_fuse::proofs::Options::known_bits_are))]
+    #[tactic(auto, using(server_meanings::proofs::Options::known_bits_are))]
     pub(crate) fn resumed_with(self, options: FsOptions, queues: Vec<Queue>) -> Device<F>
         requires { IsSavable options.0 queues.items }
         ensures { result ≡ record self { queues = queues.items; options = options.0 } }

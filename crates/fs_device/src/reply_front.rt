@@ -4,7 +4,7 @@ ghost use Rattle.std.specs.Prelude.{◌≡◌};
 
 use crate::answer_by_copy::CopiedReply;
 use plain_machine::Fault;
-use virtiofsd_fuse::REPLY_FRONT;
+use server_meanings::REPLY_FRONT;
 
 /// The bytes of a reply that are still to be written: all of them, or only the header if the data is
 /// already in the reply buffer.

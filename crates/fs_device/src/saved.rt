@@ -17,7 +17,7 @@ use virtiofsd_fuse::Server;
 
 impl<F: FileSystem> Device<F> {
     // The options that were agreed in INIT; each bit of them is a known option.
-    #[tactic(auto, using(virtiofsd_fuse::proofs::Options::known_bits_are))]
+    #[tactic(auto, using(server_meanings::proofs::Options::known_bits_are))]
     fn options(&self) -> FsOptions
         ensures value { result.0 ≡ self.now.options }
         ensures known { HasKnownBits result.0 }

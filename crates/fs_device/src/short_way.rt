@@ -5,7 +5,7 @@ ghost use Rattle.std.specs.Prelude.{IsSome, IsTrue, Ok};
 ghost use Rattle.vm_memory_core.specs.Host.{Place, lengths, shape};
 ghost use Rattle.vm_memory_core.specs.Window.{AllLieIn, places};
 ghost use Rattle.virtiofsd_fuse.specs.ReadApart.{read_meaning};
-ghost use Rattle.virtiofsd_fuse.specs.Serving.{ServerHandles};
+ghost use Rattle.virtiofsd_fuse.specs.ServerHandles.{ServerHandles};
 ghost use Rattle.plain_machine.specs.Fills.{Fills};
 ghost use Rattle.fs_device.specs.ReplyFront.{AnswersAt, front_bytes, is_header};
 ghost use Rattle.fs_device.specs.ShortWay.{IsFetchedFront, ReadsInPlace};
@@ -16,8 +16,9 @@ use crate::room_left::RoomLeft;
 use crate::room_writer::RoomWriter;
 use fs_queue::Chain;
 use fuse_fs::FileSystem;
+use server_meanings::{REPLY_FRONT, REQUEST_FRONT};
 use std::alloc::Global;
-use virtiofsd_fuse::{REPLY_FRONT, REQUEST_FRONT, ReadReply, ReadRequest, Server};
+use virtiofsd_fuse::{ReadReply, ReadRequest, Server};
 use vm_memory_core::HostBlocks;
 
 // The server answers a READ: the file's data goes to the reply buffer behind the header's 16 bytes.

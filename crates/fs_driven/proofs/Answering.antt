@@ -9,7 +9,7 @@ use Rattle.fuse_fs.specs.declared.answers.Context.{Context}
 use Rattle.fuse_values.specs.Answers.{answer_of}
 use Rattle.fuse_values.specs.declared.answer.FileAnswer as made_answer
 use Rattle.fuse_values.specs.declared.answer.FileAnswer.TheVariants as value
-use Rattle.virtiofsd_fuse.specs.Serving.{setting}
+use Rattle.server_meanings.specs.Serving.{setting}
 use Rattle.plain_machine.specs.Step.{Calls, calls_alone}
 use Rattle.server_phases.specs.Answering.{ReportsBytes, forget_calls}
 use Rattle.fuse_fs.specs.Calls.{Done, FileAnswer, FileCall, Forget}

@@ -10,8 +10,8 @@ use Rattle.fs_queue.specs.Chain.{Descriptor}
 use Rattle.fs_queue.specs.Returning.{stores_after_reply}
 use Rattle.fs_regions.specs.Places.{places_in}
 use Rattle.fs_regions.specs.Walks.{IsLongestStretch, IsThere, IsWalkAt, queue_of}
-use Rattle.virtiofsd_fuse.specs.Grammar.{Meaning}
-use Rattle.virtiofsd_fuse.specs.Serving.{Setting}
+use Rattle.server_meanings.specs.Grammar.{Meaning}
+use Rattle.server_meanings.specs.Serving.{Setting}
 use Rattle.plain_machine.specs.Step.{Calls, calls_alone, served_exchange}
 use Rattle.server_phases.specs.declared.session.Session.{Session}
 use Rattle.live_machine.specs.Several.{returning}

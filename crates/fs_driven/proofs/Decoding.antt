@@ -9,8 +9,8 @@ use Rattle.fs_chain.specs.declared.error.ChainError.TheVariants.{BadArgument, Wr
 use Rattle.fs_chain.specs.Walks.{IsAllBut}
 use Rattle.server_phases.specs.Asking.{IsRequestFront}
 use Rattle.fs_queue.specs.Taking.{readable, total_len}
-use Rattle.virtiofsd_fuse.specs.Grammar.{Meaning, meaning}
-use Rattle.virtiofsd_fuse.specs.Serving.{Setting, setting}
+use Rattle.server_meanings.specs.Grammar.{Meaning, meaning}
+use Rattle.server_meanings.specs.Serving.{Setting, setting}
 use Rattle.server_phases.specs.declared.session.Session.{Session}
 use Rattle.live_machine.specs.Live.{DecodesRequest, Fetched, InFlightChain, LiveEvent, LiveRun, Phase, SetsOptions, after_decoding}
 use Rattle.live_machine.specs.Live.{asked_chain, Happens, room_of_phase, serving}

@@ -5,7 +5,7 @@ use Rattle.std.specs.Borrow.{Bor}
 use Rattle.server_phases.specs.Gathering.{Brought}
 use Rattle.server_phases.specs.declared.listing.Listing.{Listing}
 use Rattle.server_phases.specs.declared.listing.ListingReply.{ListingReply}
-use Rattle.virtiofsd_fuse.specs.Listings.{readdir_call}
+use Rattle.server_meanings.specs.Listings.{readdir_call}
 use Rattle.live_machine.specs.Live.{InFlightChain}
 use Rattle.fs_chain.specs.Holds.{Machine, Pop}
 use Rattle.fs_chain.specs.Listings.{RepliesBy}

@@ -7,7 +7,7 @@ use Rattle.fuse_fs.specs.declared.answers.Context.{Context}
 use Rattle.fuse_fs.specs.declared.answers.Entry.{Entry}
 use Rattle.server_replies.specs.Entries.{EIO, EOVERFLOW}
 use Rattle.server_phases.specs.Gathering.{Brought, entries_of, is_looked_up, node_of}
-use Rattle.virtiofsd_fuse.specs.Listings.{readdir_call}
+use Rattle.server_meanings.specs.Listings.{readdir_call}
 use Rattle.plain_machine.specs.Step.{Calls, EachSuits}
 use Rattle.live_machine.specs.Live.{Happens, InFlightChain, LiveRun, Phase, ReceivesAnswer, after_answer, asked_chain}
 use Rattle.fs_chain.specs.Holds.{Machine, any_files}

@@ -5,7 +5,7 @@ use Rattle.fuse_fs.specs.Calls.{Entries, Failed, FileAnswer, FileCall, suits}
 use Rattle.plain_machine.specs.Step.{Calls}
 use Rattle.server_phases.specs.declared.listing.Listing.{Listing}
 use Rattle.server_phases.specs.declared.listing.ListingReply.{ListingReply}
-use Rattle.virtiofsd_fuse.specs.Listings.{readdir_call}
+use Rattle.server_meanings.specs.Listings.{readdir_call}
 use Rattle.live_machine.specs.Live.{InFlightChain, ReceivesAnswer, after_answer, asked_chain}
 use Rattle.fs_chain.specs.Holds.{HoldsChain, IsUnanswered, Machine, Pop}
 use Rattle.fs_chain.specs.HoldsListings.{EndsListing, FailsListing, HasListed, HoldsListing}

@@ -16,9 +16,9 @@ use Rattle.fuse_values.specs.Answers.{answer_of}
 use Rattle.fuse_values.specs.declared.answer.FileAnswer as made_answer
 use Rattle.fuse_values.specs.declared.answer.FileAnswer.TheVariants as value
 use Rattle.plain_machine.specs.Step.{Exchange}
-use Rattle.virtiofsd_fuse.specs.Grammar.{Asks, Lists, meaning}
-use Rattle.virtiofsd_fuse.specs.Listings.{ListRequest, readdir_call}
-use Rattle.virtiofsd_fuse.specs.Serving.{setting}
+use Rattle.server_meanings.specs.Grammar.{Asks, Lists, meaning}
+use Rattle.server_meanings.specs.Listings.{ListRequest, readdir_call}
+use Rattle.server_meanings.specs.Serving.{setting}
 use Rattle.server_phases.specs.declared.session.Session.{Session}
 use Rattle.live_machine.specs.Live.{Abandons, Asked, DecodesRequest, EndsPop, GivesUpChain, InFlightChain}
 use Rattle.live_machine.specs.Live.{LiveEvent, Phase, RepliesOwnBytes, ResetsQueue}

@@ -6,7 +6,7 @@ use Rattle.vm_iotlb.specs.declared.permissions.Permissions.TheVariants.{Write}
 use Rattle.vm_memory_core.specs.Host.{lengths}
 use Rattle.vm_memory.specs.Layout.{Region, fits, AreHeld, IsLayout}
 use Rattle.vm_memory.specs.Memory.{addresses, physical, reach}
-use Rattle.virtiofsd_fuse.specs.Serving.{May}
+use Rattle.server_meanings.specs.Serving.{May}
 use Rattle.plain_machine.specs.declared.refusal.Refusal.TheVariants as why
 use Rattle.plain_machine.specs.Step.{State}
 use Rattle.plain_machine.specs.Run.{GuestWrite, SetLayout, Affects, Answer, Done, Bytes, NewBlockIs, Served, Copied, Pages, IsRefused}

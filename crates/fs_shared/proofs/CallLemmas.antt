@@ -1,7 +1,7 @@
 -- what lies under the lock after a call
 use Rattle.std.proofs.Common.{◌≡◌, ℕ, List, ap, sym, subst, Ok, Err, Result}
 use Rattle.fs_queue.specs.declared.fault.QueueError.TheVariants as stop
-use Rattle.virtiofsd_fuse.specs.Serving.{May}
+use Rattle.server_meanings.specs.Serving.{May}
 use Rattle.plain_machine.specs.declared.error.DeviceError.{DeviceError}
 use Rattle.plain_machine.specs.declared.error.DeviceError.TheVariants as device
 use Rattle.plain_machine.specs.declared.refusal.Refusal.{Refusal}

@@ -9,7 +9,7 @@ use Rattle.fs_queue.specs.declared.fault.QueueError.TheVariants as stop
 use Rattle.fs_queue.specs.Queue.{Queue}
 use Rattle.fs_queue.specs.Taking.{Offer, IsRequest, CannotFetch, Offers, offer}
 use Rattle.fuse_fs.specs.Calls.{FileRun}
-use Rattle.virtiofsd_fuse.specs.Serving.{May}
+use Rattle.server_meanings.specs.Serving.{May}
 use Rattle.plain_machine.specs.declared.error.DeviceError.TheVariants as device
 use Rattle.plain_machine.specs.declared.refusal.Refusal.TheVariants as why
 use Rattle.plain_machine.specs.Step.{State, Exchange, Calls, StepEnd, Idle, Refused, Exchanged, Unchanged, Returns, Exchanges, Acts, StepOf}

@@ -10,7 +10,7 @@ use Rattle.vm_memory.specs.Memory.{Memory}
 use Rattle.fs_queue.specs.Taking.{Offer, RequestAndRoom, IsRequest, CannotFetch, Offers, Refuses, is_idle, offer, may_lack_memory}
 use Rattle.fs_queue.specs.Taking as taking
 use Rattle.fs_queue.specs.Windows.{IsTaken, Taken}
-use Rattle.virtiofsd_fuse.specs.Serving.{May}
+use Rattle.server_meanings.specs.Serving.{May}
 use Rattle.plain_machine.specs.declared.error.DeviceError.{DeviceError}
 use Rattle.plain_machine.specs.declared.error.DeviceError.TheVariants as device
 use Rattle.plain_machine.specs.Step.{State, Exchange, Calls, Idle, Refused, Exchanged, Exchanges, StepOf, Step}

@@ -6,7 +6,7 @@ use Rattle.vm_atomic_bitmaps.specs.declared.counts.Tally.{Tally}
 use Rattle.vm_atomic_bitmaps.specs.Counts.{both_passes, cleared_by, first_pass, in_word, joined_with}
 use Rattle.vm_atomic_bitmaps.specs.Counts.{preserved_half, met_with, new_half, IsWhole}
 use Rattle.fs_shared.specs.Portion.{HasSeen, MarksPages}
-use Rattle.virtiofsd_fuse.specs.Serving.{May}
+use Rattle.server_meanings.specs.Serving.{May}
 use Rattle.plain_machine.specs.Step.{State, Calls, StepEnd, Step}
 use Rattle.plain_machine.specs.Run.{Command}
 use Rattle.plain_machine.specs.declared.error.DeviceError.{DeviceError}

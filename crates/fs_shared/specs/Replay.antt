@@ -5,7 +5,7 @@ use Rattle.vm_iotlb.specs.declared.permissions.Permissions.TheVariants.{Write}
 use Rattle.vm_memory_core.specs.Host.{Place, lengths}
 use Rattle.vm_memory.specs.Memory.{Memory, addresses, location, physical}
 use Rattle.fs_queue.specs.Taking.{room_of, stops_queue}
-use Rattle.virtiofsd_fuse.specs.Serving.{May}
+use Rattle.server_meanings.specs.Serving.{May}
 use Rattle.plain_machine.specs.declared.error.DeviceError.{DeviceError}
 use Rattle.plain_machine.specs.declared.error.DeviceError.TheVariants as device
 use Rattle.plain_machine.specs.Step as step

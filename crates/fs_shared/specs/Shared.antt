@@ -1,7 +1,7 @@
 -- The calls on a shared device, by some state under its lock: threads take turns, so contracts can't name it.
 use Rattle.std.specs.Prelude.{ℕ, Result, Vec}
 use Rattle.std.specs.Global.{Global}
-use Rattle.virtiofsd_fuse.specs.Serving.{May}
+use Rattle.server_meanings.specs.Serving.{May}
 use Rattle.plain_machine.specs.declared.error.DeviceError.{DeviceError}
 use Rattle.plain_machine.specs.declared.refusal.Refusal.{Refusal}
 use Rattle.plain_machine.specs.Run.{Command}

@@ -15,9 +15,9 @@ use Rattle.vm_values.specs.Fields as fields
 use Rattle.fuse_fs.specs.Calls.{Done, Forget}
 use Rattle.server_requests.specs.Reading.{record_parser}
 use Rattle.server_replies.specs.WholeReplies.{error_bytes}
-use Rattle.virtiofsd_fuse.specs.Examples.{le16, nobody}
-use Rattle.virtiofsd_fuse.specs.Grammar.{meaning, meant, row}
-use Rattle.virtiofsd_fuse.specs.Serving.{May}
+use Rattle.server_meanings.specs.Examples.{le16, nobody}
+use Rattle.server_meanings.specs.Grammar.{meaning, meant, row}
+use Rattle.server_meanings.specs.Serving.{May}
 use Rattle.plain_machine.specs.Examples.{blank, queue, request, unknown_exchange, unknown_reply, with_one_request}
 use Rattle.plain_machine.specs.Run.{KickRun, Performs, RunReported, effect}
 use Rattle.plain_machine.specs.Step.{Exchanged, Step}

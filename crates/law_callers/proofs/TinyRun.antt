@@ -3,7 +3,7 @@ use Rattle.std.proofs.Common.{◌≡◌, ℕ, [], ◌∷◌, None, arith, true, 
 use Rattle.std.proofs.lemmas.Bool.Decides.{nat_tests}
 use Rattle.vm_memory.specs.Layout.{place}
 use Rattle.vm_memory.specs.Memory.{addresses, stored_all}
-use Rattle.virtiofsd_fuse.specs.Serving.{May}
+use Rattle.server_meanings.specs.Serving.{May}
 use Rattle.plain_machine.specs.Run.{RunReported}
 use Rattle.fs_confinement.specs.Confinement.{AgreeOn, SameButBytes}
 use Rattle.fs_confinement.specs.ReadSet.{byte_of, is_among, read_set, run_touches}

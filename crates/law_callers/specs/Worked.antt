@@ -7,7 +7,7 @@ use Rattle.fs_queue.specs.Chain.{Descriptor, Visit}
 use Rattle.fs_queue.specs.Loads.{Load}
 use Rattle.fs_queue.specs.Taking.{IsRequest, Offer, Offers}
 use Rattle.fuse_fs.specs.Calls.{Forget, Done}
-use Rattle.virtiofsd_fuse.specs.Examples.{in_header_bytes, le16, le64, nobody}
+use Rattle.server_meanings.specs.Examples.{in_header_bytes, le16, le64, nobody}
 use Rattle.plain_machine.specs.Examples.{blank, descriptor_bytes, put, queue, request, with_one_request}
 use Rattle.plain_machine.specs.Examples.{unknown_exchange, unknown_reply}
 use Rattle.plain_machine.specs.Harvested.{harvested}

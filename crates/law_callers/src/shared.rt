@@ -4,7 +4,7 @@ ghost use Rattle.std.specs.Prelude.{◌≡◌, ◌≢◌, ℕ, ◌<◌, true, []
 ghost use Rattle.std.specs.Int.{div_ceil};
 ghost use Rattle.vm_atomic_bitmaps.specs.Counts.{IsWhole, both_passes};
 ghost use Rattle.fuse_fs.specs.Calls.{Done, Forget};
-ghost use Rattle.virtiofsd_fuse.specs.Examples.{nobody};
+ghost use Rattle.server_meanings.specs.Examples.{nobody};
 ghost use Rattle.plain_machine.specs.Run.{SetLayout, with_layout};
 ghost use Rattle.plain_machine.specs.Step.{Exchanged, State, Step};
 ghost use Rattle.fs_device.specs.MachineView.{machine_of};

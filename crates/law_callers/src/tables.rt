@@ -2,9 +2,9 @@
 
 ghost use Rattle.std.specs.Prelude.{◌≡◌, ℕ, ◌∷◌, IfOk, List};
 ghost use Rattle.fuse_fs.specs.Calls.{Destroy, FileAnswer, Forget};
-ghost use Rattle.virtiofsd_fuse.specs.Examples.{nobody};
-ghost use Rattle.virtiofsd_fuse.specs.Grammar.{Asks, One};
-ghost use Rattle.virtiofsd_fuse.specs.Serving.{served, setting};
+ghost use Rattle.server_meanings.specs.Examples.{nobody};
+ghost use Rattle.server_meanings.specs.Grammar.{Asks, One};
+ghost use Rattle.server_meanings.specs.Serving.{served, setting};
 
 use live_machine::law_options;
 use std::alloc::AllocError;

@@ -17,7 +17,7 @@ use Rattle.fs_regions.specs.declared.step.CourseStep as comes
 use Rattle.fs_regions.specs.declared.step.CourseStep.TheVariants as step
 use Rattle.fs_regions.specs.Walks.{Loaded, FetchesBy, OffersBy, RingIsAsked, IsLost}
 use Rattle.fuse_fs.specs.Calls.{FileRun}
-use Rattle.virtiofsd_fuse.specs.Serving.{May}
+use Rattle.server_meanings.specs.Serving.{May}
 use Rattle.plain_machine.specs.Step.{State, Exchange, Exchanged, Calls}
 use Rattle.plain_machine.specs.StepBy.{StepOfBy, ExchangesBy, Effects, AnswersBy, ReturnsFaultyBy, return_acts, return_stores, reply_stores}
 use Rattle.plain_machine.specs.StepBy.{offered_by}

@@ -5,7 +5,7 @@ use Rattle.fs_regions.specs.declared.step.CourseStep as comes
 use Rattle.fs_regions.specs.declared.step.CourseStep.TheVariants as step
 use Rattle.fs_regions.specs.Walks.{Loaded}
 use Rattle.fuse_fs.specs.Calls.{FileRun}
-use Rattle.virtiofsd_fuse.specs.Serving.{May}
+use Rattle.server_meanings.specs.Serving.{May}
 use Rattle.live_machine.specs.Several.{LiveQueue}
 use Rattle.live_machine.specs.Live.{LiveState, LiveEvent, EndsPop, ReceivesAnswer, HasEffect, Happens, EndsPopIn, calls_among}
 use Rattle.live_machine.specs.Runs.{CallsAreARun}

@@ -9,10 +9,10 @@ use Rattle.fuse_fs.specs.Calls as file
 use Rattle.server_calls.specs.Requests.{entry_node, forget_node, forget_entry, options_after}
 use Rattle.server_replies.specs.Entries.{Fit, FitsIn, entry_bytes, entry_len, fit_of, is_dot, no_node}
 use Rattle.server_replies.specs.WholeReplies.{error_bytes, listing_bytes}
-use Rattle.virtiofsd_fuse.specs.Grammar.{Meaning, Replies, Asks, One, Starts, Lists}
-use Rattle.virtiofsd_fuse.specs.Listings.{ListRequest, Next, ListingResult, after_call, list_entries, looked_up, placed, readdir_call}
-use Rattle.virtiofsd_fuse.specs.Listings.{forget_lookup, with_entry}
-use Rattle.virtiofsd_fuse.specs.Serving.{Setting, answer_bytes, list_answered, replied, served, start_answered, start_options, undone}
+use Rattle.server_meanings.specs.Grammar.{Meaning, Replies, Asks, One, Starts, Lists}
+use Rattle.server_meanings.specs.Listings.{ListRequest, Next, ListingResult, after_call, list_entries, looked_up, placed, readdir_call}
+use Rattle.server_meanings.specs.Listings.{forget_lookup, with_entry}
+use Rattle.server_meanings.specs.Serving.{Setting, answer_bytes, list_answered, replied, served, start_answered, start_options, undone}
 use Rattle.plain_machine.specs.Step.{Calls, answers_alone, calls_alone}
 
 -- ---- lists

@@ -8,7 +8,7 @@ use Rattle.fs_queue.specs.Returning.{Store, writes_of}
 use Rattle.fs_regions.specs.Walks.{Loaded}
 use Rattle.fs_regions.specs.declared.step.CourseStep as comes
 use Rattle.fs_regions.specs.declared.step.CourseStep.TheVariants as step
-use Rattle.virtiofsd_fuse.specs.Serving.{May}
+use Rattle.server_meanings.specs.Serving.{May}
 use Rattle.plain_machine.specs.StepBy.{after_stores, reply_stores, stores_among}
 use Rattle.plain_machine.proofs.PageLemmas.{ways_stay}
 use Rattle.live_machine.specs.Guest.{HasMappings, StaysThere, after_event, after_stores_over, mappings_of, over_mappings}

@@ -6,7 +6,7 @@ use Rattle.std.proofs.lemmas.List.Folds.{list_any-append}
 use Rattle.vm_memory_core.specs.Host.{Host}
 use Rattle.vm_memory.specs.Memory.{Memory, physical}
 use Rattle.fs_queue.specs.Returning.{writes_of}
-use Rattle.virtiofsd_fuse.specs.Serving.{May}
+use Rattle.server_meanings.specs.Serving.{May}
 use Rattle.plain_machine.specs.MarkedPages.{Marks, block_mark, io_mark, marked_by, marks_block, marks_io}
 use Rattle.plain_machine.specs.StepBy.{after_stores, stores_among}
 use Rattle.plain_machine.proofs.PageLemmas.{ways, ways_stay, writes_mark}

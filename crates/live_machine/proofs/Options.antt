@@ -4,9 +4,9 @@ use Rattle.std.proofs.lemmas.Bool.{true≢false}
 use Rattle.fuse_fs.specs.Calls.{FileCall, FileAnswer}
 use Rattle.fuse_fs.specs.Calls as file
 use Rattle.server_calls.specs.Requests.{options_after}
-use Rattle.virtiofsd_fuse.specs.Grammar.{Meaning, Replies, Asks, One, Starts, Lists}
-use Rattle.virtiofsd_fuse.specs.Listings.{ListRequest}
-use Rattle.virtiofsd_fuse.specs.Serving.{Setting, agreed, served, setting, replied, start_options, list_answered}
+use Rattle.server_meanings.specs.Grammar.{Meaning, Replies, Asks, One, Starts, Lists}
+use Rattle.server_meanings.specs.Listings.{ListRequest}
+use Rattle.server_meanings.specs.Serving.{Setting, agreed, served, setting, replied, start_options, list_answered}
 use Rattle.live_machine.specs.Options.{OptionsStay, agrees, changes_options, is_destroy}
 
 -- as the options of a setting alone

@@ -11,9 +11,9 @@ use Rattle.fs_regions.specs.Walks.{FetchesBy, IsLost, Loaded}
 use Rattle.fuse_fs.specs.Calls.{FileAnswer, FileCall, suits}
 use Rattle.server_replies.specs.WholeReplies.{error_bytes, reply_bytes}
 use Rattle.server_requests.specs.Reading.{record_parser}
-use Rattle.virtiofsd_fuse.specs.Examples.{le16}
-use Rattle.virtiofsd_fuse.specs.Grammar.{meaning, meant, row}
-use Rattle.virtiofsd_fuse.specs.Serving.{May}
+use Rattle.server_meanings.specs.Examples.{le16}
+use Rattle.server_meanings.specs.Grammar.{meaning, meant, row}
+use Rattle.server_meanings.specs.Serving.{May}
 use Rattle.plain_machine.specs.Examples.{blank, queue}
 use Rattle.live_machine.specs.Live.{ReceivesAnswerSo, PushesChainSo, LoadsAreMapped, Asked, InFlightChain, LiveState, PushedWith, serving}
 use Rattle.live_machine.specs.Live.{after_answer, after_push, room_of}

@@ -12,7 +12,7 @@ use Rattle.vm_memory.proofs.Places.{length-addresses}
 use Rattle.fs_queue.specs.Queue.{Queue, element_at, index_at}
 use Rattle.fs_queue.specs.Returning.{Store, next_position, stores_after_reply, writes_of}
 use Rattle.fs_queue.proofs.ReturnLemmas.{returns_by_stores}
-use Rattle.virtiofsd_fuse.specs.Serving.{May}
+use Rattle.server_meanings.specs.Serving.{May}
 use Rattle.plain_machine.specs.MarkedPages.{block_mark, io_mark, marks_block, marks_io, returned_addresses}
 use Rattle.plain_machine.specs.Step.{Exchange}
 use Rattle.plain_machine.specs.StepBy.{reply_stores, stores_among}

@@ -11,7 +11,7 @@ use Rattle.fs_queue.specs.Taking.{return_fault, stops_queue}
 use Rattle.fs_regions.specs.declared.step.CourseStep as comes
 use Rattle.fs_regions.specs.declared.step.CourseStep.TheVariants as step
 use Rattle.fs_regions.specs.Walks.{Loaded}
-use Rattle.virtiofsd_fuse.specs.Serving.{May}
+use Rattle.server_meanings.specs.Serving.{May}
 use Rattle.live_machine.specs.Several.{LiveQueue, InFlightId, took, gave_up, gave, returning}
 use Rattle.live_machine.specs.Live.{Phase, PoppedFaulty, Own, Abandoned, InFlightChain, LiveState, LiveEvent, EndsPop, RefusesPop}
 use Rattle.live_machine.specs.Live.{DecodesRequest, ReceivesAnswer, PushesChain, StoresNotification, ResetsQueue, FillsBuffer, GivesUpChain}

@@ -12,7 +12,7 @@ use Rattle.fs_queue.specs.Taking.{stops_queue}
 use Rattle.fs_regions.specs.declared.step.CourseStep as comes
 use Rattle.fs_regions.specs.declared.step.CourseStep.TheVariants as step
 use Rattle.fs_regions.specs.Walks.{Loaded}
-use Rattle.virtiofsd_fuse.specs.Serving.{May}
+use Rattle.server_meanings.specs.Serving.{May}
 use Rattle.live_machine.specs.Several.{LiveQueue, InFlightId, QueueEvent, RunsOver, may_take, took, gave_up, gave, returning}
 use Rattle.live_machine.specs.Several as several
 use Rattle.live_machine.proofs.SeveralRuns.{once, used_in_order}

@@ -5,7 +5,7 @@ use Rattle.std.specs.List.{list_any}
 use Rattle.std.proofs.lemmas.Bool.{eq-eqb, eqb-true, or_left, or_right}
 use Rattle.std.proofs.lemmas.List.Folds.{list_any-append}
 use Rattle.fs_queue.specs.Returning.{writes_of}
-use Rattle.virtiofsd_fuse.specs.Serving.{May}
+use Rattle.server_meanings.specs.Serving.{May}
 use Rattle.plain_machine.specs.StepBy.{stores_among}
 use Rattle.live_machine.specs.Live.{Happens, LiveEvent, LiveState, event_acts}
 use Rattle.live_machine.specs.Runs.{page_of, reported_by}

@@ -18,8 +18,8 @@ use Rattle.fs_regions.specs.Laws.{HasLoaded}
 use Rattle.fs_regions.specs.declared.step.CourseStep.TheVariants as step
 use Rattle.fs_regions.specs.Walks.{Loaded, IsLost, FetchesBy}
 use Rattle.fuse_fs.specs.Calls.{FileCall, FileAnswer, FileRun, suits}
-use Rattle.virtiofsd_fuse.specs.Grammar.{meaning}
-use Rattle.virtiofsd_fuse.specs.Serving.{May, served, setting}
+use Rattle.server_meanings.specs.Grammar.{meaning}
+use Rattle.server_meanings.specs.Serving.{May, served, setting}
 use Rattle.plain_machine.specs.Run.{KickRun}
 use Rattle.plain_machine.specs.Step.{State, Exchange, Exchanged, Step, Calls, answers_alone}
 use Rattle.plain_machine.specs.StepBy.{Act, Effects, StepBy, StepOfBy, ExchangesBy, AreStepLoadsOf, IsOfMemory, FindFlags, MayStoreLast}

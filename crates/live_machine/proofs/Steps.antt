@@ -16,7 +16,7 @@ use Rattle.fs_regions.specs.declared.step.CourseStep as comes
 use Rattle.fs_regions.specs.declared.step.CourseStep.TheVariants as step
 use Rattle.fs_regions.specs.Walks.{Loaded, OffersBy}
 use Rattle.fuse_fs.specs.Calls.{FileRun}
-use Rattle.virtiofsd_fuse.specs.Serving.{May}
+use Rattle.server_meanings.specs.Serving.{May}
 use Rattle.plain_machine.specs.declared.error.DeviceError.TheVariants as device
 use Rattle.plain_machine.specs.Step.{State, StepEnd, Idle, Refused, Exchange, Exchanged, Step, with_queue}
 use Rattle.plain_machine.specs.StepBy.{ActsBy, FindFlags, StepOfBy, after_stores, reply_stores, return_acts, return_stores, stores_among}

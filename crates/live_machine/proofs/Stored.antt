@@ -9,7 +9,7 @@ use Rattle.vm_memory.specs.Memory.{addresses}
 use Rattle.fs_queue.specs.Queue.{Queue, element_at, index_at}
 use Rattle.fs_queue.specs.Returning.{Store, writes_of, stores_after_reply}
 use Rattle.fs_queue.proofs.ReturnLemmas.{returns_by_stores}
-use Rattle.virtiofsd_fuse.specs.Serving.{May}
+use Rattle.server_meanings.specs.Serving.{May}
 use Rattle.plain_machine.specs.StepBy.{StoresBytes, reply_stores, return_acts, stores_among}
 use Rattle.plain_machine.proofs.StepByLemmas.{reply_writes}
 use Rattle.live_machine.specs.Several.{LiveQueue, returning, wish_at}

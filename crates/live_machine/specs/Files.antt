@@ -1,7 +1,7 @@
 -- A run whose files may answer anything is a run over any files of which its calls are a run.
 use Rattle.std.specs.Prelude.{List}
 use Rattle.fuse_fs.specs.Calls.{FileRun}
-use Rattle.virtiofsd_fuse.specs.Serving.{May}
+use Rattle.server_meanings.specs.Serving.{May}
 use Rattle.live_machine.specs.Live.{LiveEvent, LiveRun, LiveState, calls_among}
 
 -- files that may answer anything

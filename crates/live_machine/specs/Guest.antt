@@ -3,7 +3,7 @@ use Rattle.std.specs.Prelude.{◌≡◌, ℕ, List, [], ◌∷◌, ◌++◌, map
 use Rattle.std.specs.List.{AllByRecursion}
 use Rattle.vm_memory.specs.Memory.{Memory, physical, stored_all}
 use Rattle.vm_memory_core.specs.Host.{Host}
-use Rattle.virtiofsd_fuse.specs.Serving.{May}
+use Rattle.server_meanings.specs.Serving.{May}
 use Rattle.plain_machine.specs.MarkedPages.{block_mark, io_mark, marked_by, marks_block, marks_io}
 use Rattle.plain_machine.specs.StepBy.{after_stores, reply_stores}
 use Rattle.fs_queue.specs.Returning.{Store}

@@ -5,8 +5,8 @@ use Rattle.fs_queue.specs.Returning.{Store}
 use Rattle.fs_regions.specs.declared.step.CourseStep.TheVariants as step
 use Rattle.fs_regions.specs.Walks.{Loaded}
 use Rattle.fuse_fs.specs.Calls.{FileCall, Failed, Init, Lookup, Wants}
-use Rattle.virtiofsd_fuse.specs.Examples.{le16, le32, le64, in_header_bytes, nobody, zeros}
-use Rattle.virtiofsd_fuse.specs.Serving.{May}
+use Rattle.server_meanings.specs.Examples.{le16, le32, le64, in_header_bytes, nobody, zeros}
+use Rattle.server_meanings.specs.Serving.{May}
 use Rattle.plain_machine.specs.Step.{Exchange}
 use Rattle.live_machine.specs.Live.{Asked, InFlightChain, EndsPop, DecodesRequest, ReceivesAnswer}
 use Rattle.live_machine.specs.Live.{PushesChain, LiveRun}

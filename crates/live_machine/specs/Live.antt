@@ -19,8 +19,8 @@ use Rattle.fs_regions.specs.declared.step.CourseStep as comes
 use Rattle.fs_regions.specs.declared.step.CourseStep.TheVariants as step
 use Rattle.fs_regions.specs.Walks.{FaultIsNoMiss, FetchesBy, Loaded, OffersBy, RefusalIsNoMiss}
 use Rattle.fuse_fs.specs.Calls.{FileCall, FileAnswer, suits}
-use Rattle.virtiofsd_fuse.specs.Grammar.{meaning}
-use Rattle.virtiofsd_fuse.specs.Serving.{May, ServedMessage, served, setting}
+use Rattle.server_meanings.specs.Grammar.{meaning}
+use Rattle.server_meanings.specs.Serving.{May, ServedMessage, served, setting}
 use Rattle.plain_machine.specs.Step.{Exchange, Calls, answers_alone, calls_alone, faulty, served_exchange}
 use Rattle.plain_machine.specs.StepBy.{Act, StoresBytes, reply_stores, return_acts}
 use Rattle.live_machine.specs.Several.{LiveQueue, event_miss_of, event_refusal, gave, gave_up, may_take}

@@ -1,9 +1,9 @@
 -- The options of a session that an answer leaves.
 use Rattle.std.specs.Prelude.{◌≡◌, ℕ, Bool, true, false, List, ◌∷◌}
 use Rattle.fuse_fs.specs.Calls.{FileCall, FileAnswer, Destroy, Wants}
-use Rattle.virtiofsd_fuse.specs.Grammar.{Meaning, One, Starts}
-use Rattle.virtiofsd_fuse.specs.Grammar as grammar
-use Rattle.virtiofsd_fuse.specs.Serving.{served, setting}
+use Rattle.server_meanings.specs.Grammar.{Meaning, One, Starts}
+use Rattle.server_meanings.specs.Grammar as grammar
+use Rattle.server_meanings.specs.Serving.{served, setting}
 
 -- DESTROY ends the negotiated options
 abbrev pub is_destroy : FileCall → Bool

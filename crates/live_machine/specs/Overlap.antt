@@ -6,8 +6,8 @@ use Rattle.fs_queue.specs.Returning.{Store}
 use Rattle.fs_regions.specs.declared.step.CourseStep.TheVariants as step
 use Rattle.fs_regions.specs.Walks.{Loaded}
 use Rattle.fuse_fs.specs.Calls.{Destroy, Done}
-use Rattle.virtiofsd_fuse.specs.Examples.{le16, le32, in_header_bytes, zeros}
-use Rattle.virtiofsd_fuse.specs.Serving.{May}
+use Rattle.server_meanings.specs.Examples.{le16, le32, in_header_bytes, zeros}
+use Rattle.server_meanings.specs.Serving.{May}
 use Rattle.plain_machine.specs.Examples.{blank, descriptor_bytes, queue}
 use Rattle.plain_machine.specs.Step.{Exchange}
 use Rattle.live_machine.specs.Several.{LiveQueue, by_flags}

@@ -7,8 +7,8 @@ use Rattle.fs_queue.specs.Returning.{Store}
 use Rattle.fs_regions.specs.declared.step.CourseStep.TheVariants as step
 use Rattle.fs_regions.specs.Walks.{Loaded}
 use Rattle.fuse_fs.specs.Calls.{FileCall, Forget, Done}
-use Rattle.virtiofsd_fuse.specs.Examples.{le16, le64, in_header_bytes, nobody}
-use Rattle.virtiofsd_fuse.specs.Serving.{May}
+use Rattle.server_meanings.specs.Examples.{le16, le64, in_header_bytes, nobody}
+use Rattle.server_meanings.specs.Serving.{May}
 use Rattle.plain_machine.specs.Examples.{blank, descriptor_bytes}
 use Rattle.plain_machine.specs.Step.{Exchange}
 use Rattle.live_machine.specs.Several.{LiveQueue, by_flags}

@@ -4,7 +4,7 @@ use Rattle.std.specs.Prelude.{◌≡◌, ℕ, ◌+◌, Bool, true, false, not, �
 use Rattle.std.specs.Prelude.{List, [], ◌∷◌, ◌++◌, filter, flat_map, Option, Some, None, slice_get}
 use Rattle.std.specs.List.{list_any}
 use Rattle.fs_queue.specs.Returning.{writes_of}
-use Rattle.virtiofsd_fuse.specs.Serving.{May}
+use Rattle.server_meanings.specs.Serving.{May}
 use Rattle.plain_machine.specs.StepBy.{stores_among}
 use Rattle.live_machine.specs.Live.{LiveEvent, LiveRun, LiveState, event_acts}
 use Rattle.live_machine.specs.Runs.{page_of, reported_by}

@@ -12,7 +12,7 @@ use Rattle.fs_queue.specs.Returning.{Store, writes_of, notifies, advanced}
 use Rattle.fs_queue.specs.Taking.{IsRequest, Offers}
 use Rattle.fs_regions.specs.declared.step.CourseStep.TheVariants as step
 use Rattle.fuse_fs.specs.Calls.{FileRun}
-use Rattle.virtiofsd_fuse.specs.Serving.{May}
+use Rattle.server_meanings.specs.Serving.{May}
 use Rattle.plain_machine.specs.MarkedPages.{Marks, returned_addresses}
 use Rattle.plain_machine.specs.Step.{State, Exchange, Exchanged}
 use Rattle.fs_regions.specs.Walks.{IsLost, OffersBy, RingIsAsked}

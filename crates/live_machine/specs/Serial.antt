@@ -8,7 +8,7 @@ use Rattle.fs_queue.specs.Returning.{Store}
 use Rattle.fs_regions.specs.declared.step.CourseStep.TheVariants as step
 use Rattle.fs_regions.specs.Laws.{HasLoaded}
 use Rattle.fs_regions.specs.Walks.{Loaded}
-use Rattle.virtiofsd_fuse.specs.Serving.{May}
+use Rattle.server_meanings.specs.Serving.{May}
 use Rattle.plain_machine.specs.Run.{KickRun, Turn}
 use Rattle.plain_machine.specs.Step.{State, Exchange, Exchanged, Step}
 use Rattle.plain_machine.specs.StepBy.{FindFlags, MayStoreLast, after_stores, stores_among}

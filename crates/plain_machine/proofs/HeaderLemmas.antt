@@ -11,10 +11,10 @@ use Rattle.server_calls.specs.Requests.{is_silent}
 use Rattle.server_replies.specs.WholeReplies.{reply_bytes, error_bytes, data_reply, reported_bytes, listing_bytes, listing_answer}
 use Rattle.server_replies.specs.WholeReplies.{started_bytes, versions_bytes}
 use Rattle.server_replies.proofs.ReplyLemmas.{length_reply, length_error}
-use Rattle.virtiofsd_fuse.specs.Grammar.{Meaning, Replies, Asks, FileCommand, One, Starts, Lists, meaning}
-use Rattle.virtiofsd_fuse.specs.Listings.{ListRequest, list_entries}
-use Rattle.virtiofsd_fuse.specs.Serving.{Setting, served, replied, commanded, list_answered, start_answered, answer_bytes, agreed}
-use Rattle.virtiofsd_fuse.proofs.EachMeaning.{meaning_holds}
+use Rattle.server_meanings.specs.Grammar.{Meaning, Replies, Asks, FileCommand, One, Starts, Lists, meaning}
+use Rattle.server_meanings.specs.Listings.{ListRequest, list_entries}
+use Rattle.server_meanings.specs.Serving.{Setting, served, replied, commanded, list_answered, start_answered, answer_bytes, agreed}
+use Rattle.server_meanings.proofs.EachMeaning.{meaning_holds}
 use Rattle.plain_machine.specs.UsedLength.{header_length}
 
 -- the bytes of a reply, if there are any, begin with their number

@@ -14,7 +14,7 @@ use Rattle.vm_memory.specs.Layout.{place}
 use Rattle.vm_memory.specs.Memory.{Memory, for_io, location, place_behind, stored, stored_all, stored_at, table_of}
 use Rattle.fs_queue.specs.Taking.{room_of}
 use Rattle.fs_queue.specs.Returning.{writes}
-use Rattle.virtiofsd_fuse.specs.Serving.{May}
+use Rattle.server_meanings.specs.Serving.{May}
 use Rattle.plain_machine.specs.MarkedPages.{block_mark, io_mark, is_in_page, marks_block, marks_io, marked_by, returned_addresses, Marks}
 use Rattle.plain_machine.specs.MarkedPages.{StepsMark, WritesMark}
 use Rattle.plain_machine.proofs.PlainPlaces.{IsPlain, plain_place}

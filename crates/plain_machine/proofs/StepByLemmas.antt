@@ -21,7 +21,7 @@ use Rattle.fs_queue.proofs.ReadLemmas.{length-bytes}
 use Rattle.fs_queue.proofs.ReturnLemmas.{over, all_tables, same_location, stored_located, returns_by_stores}
 use Rattle.fs_queue.specs.Returning.{Store, writes_of, stores_after_reply, returned, wants_notice, notifies, advanced}
 use Rattle.plain_machine.proofs.ApartLemmas.{put_all_comm}
-use Rattle.virtiofsd_fuse.specs.Serving.{May}
+use Rattle.server_meanings.specs.Serving.{May}
 use Rattle.plain_machine.specs.declared.error.DeviceError.TheVariants as device
 use Rattle.plain_machine.specs.Step.{State, Exchange, StepEnd, Idle, Refused, Exchanged, Calls, Unchanged, Acts, Exchanges, Returns, StepOf}
 use Rattle.plain_machine.specs.Step.{with_queue, faulty, served_exchange}

@@ -7,7 +7,7 @@ use Rattle.vm_memory.specs.Memory.{Memory, stored_all}
 use Rattle.fs_queue.specs.Queue.{Queue}
 use Rattle.fs_queue.specs.Taking.{RequestAndRoom, IsRequest, CannotFetch, Offer, Offers, offer, room_of}
 use Rattle.fs_queue.specs.Returning.{returned, writes}
-use Rattle.virtiofsd_fuse.specs.Serving.{May, setting}
+use Rattle.server_meanings.specs.Serving.{May, setting}
 use Rattle.plain_machine.specs.Step.{State, Exchange, Exchanged, Calls, Exchanges, StepOf, Step, answers_alone}
 use Rattle.plain_machine.specs.UsedLength.{IsOffered, ReportsLength, LengthsAreReported, reply_writes, ring_writes}
 use Rattle.plain_machine.proofs.HeaderLemmas.{IsHeaded, reply_reported}

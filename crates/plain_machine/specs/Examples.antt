@@ -14,9 +14,9 @@ use Rattle.server_segments.specs.declared.error.Error.TheVariants as error
 use Rattle.vm_values.specs.Fields as fields
 use Rattle.server_requests.specs.Reading.{record_parser}
 use Rattle.server_replies.specs.WholeReplies.{error_bytes}
-use Rattle.virtiofsd_fuse.specs.Examples.{zeros, le16, le32, le64, in_header_bytes}
-use Rattle.virtiofsd_fuse.specs.Grammar.{IsFault, Replies, meaning, meant}
-use Rattle.virtiofsd_fuse.specs.Serving.{May}
+use Rattle.server_meanings.specs.Examples.{zeros, le16, le32, le64, in_header_bytes}
+use Rattle.server_meanings.specs.Grammar.{IsFault, Replies, meaning, meant}
+use Rattle.server_meanings.specs.Serving.{May}
 use Rattle.plain_machine.specs.declared.error.DeviceError.TheVariants as device_error
 use Rattle.plain_machine.specs.Step.{State, Exchange, Refused, Exchanged, Step, after_return}
 

@@ -11,10 +11,10 @@ use Rattle.fs_queue.specs.Loads.{Load, found_exactly}
 use Rattle.fs_queue.specs.Queue.{with_stop}
 use Rattle.fs_queue.specs.Returning.{advanced}
 use Rattle.server_replies.specs.WholeReplies.{error_bytes}
-use Rattle.virtiofsd_fuse.specs.Examples.{le16, le32}
+use Rattle.server_meanings.specs.Examples.{le16, le32}
 use Rattle.vm_values.specs.Fields as fields
 use Rattle.server_requests.specs.Reading.{record_parser}
-use Rattle.virtiofsd_fuse.specs.Grammar.{meaning, meant}
+use Rattle.server_meanings.specs.Grammar.{meaning, meant}
 use Rattle.plain_machine.specs.declared.error.DeviceError.TheVariants as device_error
 use Rattle.plain_machine.specs.Step.{Exchanged, Refused}
 use Rattle.plain_machine.specs.Examples.{blank, descriptor_bytes, device, may, queue, request}

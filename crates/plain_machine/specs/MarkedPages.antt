@@ -10,7 +10,7 @@ use Rattle.vm_memory.specs.Memory.{Memory, addresses, location, physical, stored
 use Rattle.fs_queue.specs.Queue.{Queue}
 use Rattle.fs_queue.specs.Taking.{room_of}
 use Rattle.fs_queue.specs.Returning.{writes}
-use Rattle.virtiofsd_fuse.specs.Serving.{May}
+use Rattle.server_meanings.specs.Serving.{May}
 use Rattle.plain_machine.specs.Step.{State, Exchange, Exchanged, Calls, Step}
 use Rattle.plain_machine.specs.UsedLength.{IsOffered}
 use Rattle.plain_machine.specs.Run.{Command, GuestWrite, Kick, Answer, Done, Served, Copied, Pages, Turns}

@@ -14,7 +14,7 @@ use Rattle.vm_memory_core.specs.Lending.{with_table_at}
 use Rattle.vm_memory.specs.Layout.{Region, fits, overlap, with_region, is_region, without_region}
 use Rattle.vm_memory.specs.Memory.{Memory, addresses, reach, bytes, stored_all, physical, table_of}
 use Rattle.fs_queue.specs.Queue.{Queue, fresh}
-use Rattle.virtiofsd_fuse.specs.Serving.{May}
+use Rattle.server_meanings.specs.Serving.{May}
 use Rattle.plain_machine.specs.Harvested.{Page, harvested}
 use Rattle.plain_machine.specs.declared.error.DeviceError.{DeviceError}
 use Rattle.plain_machine.specs.declared.error.DeviceError.TheVariants as device

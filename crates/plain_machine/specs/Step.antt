@@ -11,8 +11,8 @@ use Rattle.fs_queue.specs.Taking as taking
 use Rattle.fs_queue.specs.Returning.{returned, wants_notice, advanced}
 use Rattle.fuse_fs.specs.Calls.{FileCall, FileAnswer, FileRun, suits}
 use Rattle.server_segments.specs.declared.error.Error.{Error}
-use Rattle.virtiofsd_fuse.specs.Grammar.{meaning}
-use Rattle.virtiofsd_fuse.specs.Serving.{May, ServedMessage, served, setting}
+use Rattle.server_meanings.specs.Grammar.{meaning}
+use Rattle.server_meanings.specs.Serving.{May, ServedMessage, served, setting}
 use Rattle.plain_machine.specs.declared.error.DeviceError.{DeviceError}
 use Rattle.plain_machine.specs.declared.error.DeviceError.TheVariants as device
 use Rattle.plain_machine.specs.declared.fault.Fault.{Fault}

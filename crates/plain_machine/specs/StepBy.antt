@@ -15,7 +15,7 @@ use Rattle.fs_queue.specs.Loads.{Load}
 use Rattle.fs_queue.specs.OfferLoads.{offer_by, AreLoadsOf}
 use Rattle.fs_queue.specs.Returning.{Store, writes_of, stores_after_reply, notifies, advanced}
 use Rattle.plain_machine.specs.Apart.{Apart}
-use Rattle.virtiofsd_fuse.specs.Serving.{May, ServedMessage}
+use Rattle.server_meanings.specs.Serving.{May, ServedMessage}
 use Rattle.plain_machine.specs.declared.error.DeviceError.TheVariants as device
 use Rattle.plain_machine.specs.Step.{State, Exchange, StepEnd, Idle, Refused, Exchanged, Calls, Unchanged}
 use Rattle.plain_machine.specs.Step.{ServesRequest, with_queue, faulty, served_exchange, Step}

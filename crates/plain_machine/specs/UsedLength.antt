@@ -5,7 +5,7 @@ use Rattle.vm_memory.specs.Memory.{Memory, addresses, stored_all}
 use Rattle.fs_queue.specs.Queue.{Queue, element_at, index_at}
 use Rattle.fs_queue.specs.Returning.{next_position}
 use Rattle.fs_queue.specs.Taking.{RequestAndRoom, Offers, offer, room_of}
-use Rattle.virtiofsd_fuse.specs.Serving.{May}
+use Rattle.server_meanings.specs.Serving.{May}
 use Rattle.plain_machine.specs.Step.{State, Exchange, Exchanged, Calls, Step}
 
 -- the length in a reply's header: its first le32 (linux/fuse.h, struct fuse_out_header)

@@ -13,7 +13,7 @@ use Rattle.server_segments.specs.declared.error.Error.{Error}
 use Rattle.server_segments.specs.declared.error.Error.TheVariants.{DecodeMessage}
 use Rattle.server_requests.specs.Reading as reading
 use Rattle.server_requests.specs.Reading.{Faults, and_then, record_parser}
-use Rattle.virtiofsd_fuse.specs.DataApart.{is_write}
+use Rattle.server_meanings.specs.DataApart.{is_write}
 use Rattle.server_phases.specs.Asking.{IsRequestFront, BeginsRecord}
 
 -- a parser that left something else

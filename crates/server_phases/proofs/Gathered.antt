@@ -16,11 +16,11 @@ use Rattle.server_replies.specs.Entries.{Fit, FitsIn, IsFull, IsWrong, EIO, EOVE
 use Rattle.server_replies.specs.Entries.{node_bytes, fit_of, is_dot, no_node}
 use Rattle.server_replies.specs.WholeReplies.{reply_bytes, error_bytes, listing_bytes, data_header}
 use Rattle.server_replies.proofs.ReplyLemmas.{length_reply, length_error}
-use Rattle.virtiofsd_fuse.specs.Grammar.{FileCommand, Lists}
-use Rattle.virtiofsd_fuse.specs.Listings as asked
-use Rattle.virtiofsd_fuse.specs.Listings.{ListingResult, Next, after_call, forget_lookup, with_entry, list_entry, list_entries}
-use Rattle.virtiofsd_fuse.specs.Listings.{readdir_call}
-use Rattle.virtiofsd_fuse.specs.Serving.{Setting, ServedMessage, commanded, replied, list_ended}
+use Rattle.server_meanings.specs.Grammar.{FileCommand, Lists}
+use Rattle.server_meanings.specs.Listings as asked
+use Rattle.server_meanings.specs.Listings.{ListingResult, Next, after_call, forget_lookup, with_entry, list_entry, list_entries}
+use Rattle.server_meanings.specs.Listings.{readdir_call}
+use Rattle.server_meanings.specs.Serving.{Setting, ServedMessage, commanded, replied, list_ended}
 use Rattle.server_phases.specs.declared.listing.Listing.{Listing}
 use Rattle.server_phases.specs.declared.listing.NotAdded.{NotAdded}
 use Rattle.server_phases.specs.declared.listing.NotAdded.TheVariants.{TooLong, Full, NoRoom, ShortList}

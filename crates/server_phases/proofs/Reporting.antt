@@ -19,9 +19,9 @@ use Rattle.server_replies.specs.WholeReplies.{error_bytes, reply_bytes, versions
 use Rattle.server_replies.proofs.ReplyLemmas.{length_error, length_reply}
 use Rattle.server_segments.specs.declared.error.Error.{Error}
 use Rattle.server_segments.specs.declared.error.Error.TheVariants.{EncodeMessage}
-use Rattle.virtiofsd_fuse.specs.Grammar.{Meaning, IsFault, IsSilent, Replies, Asks, One, Given, ended, forgets_asked, one}
-use Rattle.virtiofsd_fuse.specs.Serving.{Setting, setting}
-use Rattle.virtiofsd_fuse.proofs.Serve.{ask_of, ended_ask, ended_fault}
+use Rattle.server_meanings.specs.Grammar.{Meaning, IsFault, IsSilent, Replies, Asks, One, Given, ended, forgets_asked, one}
+use Rattle.server_meanings.specs.Serving.{Setting, setting}
+use Rattle.server_meanings.proofs.Serve.{ask_of, ended_ask, ended_fault}
 use Rattle.server_phases.specs.declared.asking.DecodedRequest.{DecodedRequest}
 use Rattle.server_phases.specs.declared.asking.DecodedRequest.TheVariants as asked
 use Rattle.server_phases.specs.Asking.{DecodedStandsIn, IsDecoded, IsAskedBy, HasAsker, ReportsData, StandsBehindHeader, reported_reply}

@@ -14,9 +14,9 @@ use Rattle.server_calls.specs.Requests.{is_silent, options_after, forget_entry, 
 use Rattle.server_replies.specs.WholeReplies.{reply_bytes, error_bytes, reported_bytes}
 use Rattle.server_replies.proofs.ReplyLemmas.{length_reply}
 use Rattle.server_segments.specs.declared.error.Error.TheVariants.{EncodeMessage}
-use Rattle.virtiofsd_fuse.specs.Grammar.{FileCommand, One, Starts, Lists}
-use Rattle.virtiofsd_fuse.specs.Listings.{readdir_call}
-use Rattle.virtiofsd_fuse.specs.Serving.{Setting, ServedMessage, commanded, replied, undone}
+use Rattle.server_meanings.specs.Grammar.{FileCommand, One, Starts, Lists}
+use Rattle.server_meanings.specs.Listings.{readdir_call}
+use Rattle.server_meanings.specs.Serving.{Setting, ServedMessage, commanded, replied, undone}
 use Rattle.server_phases.specs.declared.answering.Sent.TheVariants as sent
 use Rattle.server_phases.specs.declared.waiting.Awaits.{Awaits}
 use Rattle.server_phases.specs.declared.waiting.Awaits.TheVariants as awaits

@@ -11,8 +11,8 @@ use Rattle.fuse_values.specs.declared.answer.FileAnswer.TheVariants as value
 use Rattle.fuse_values.specs.Answers.{answer_of}
 use Rattle.server_calls.specs.Requests.{forget_node, entry_node}
 use Rattle.server_segments.specs.declared.error.Error.TheVariants.{EncodeMessage}
-use Rattle.virtiofsd_fuse.specs.Grammar.{FileCommand}
-use Rattle.virtiofsd_fuse.specs.Serving.{Setting, ServedMessage, commanded}
+use Rattle.server_meanings.specs.Grammar.{FileCommand}
+use Rattle.server_meanings.specs.Serving.{Setting, ServedMessage, commanded}
 use Rattle.server_phases.specs.declared.answering.Answered.{Answered}
 use Rattle.server_phases.specs.declared.answering.AnswerRefusal.{AnswerRefusal}
 use Rattle.server_phases.specs.declared.answering.AnswerRefusal.TheVariants as refused

@@ -12,9 +12,9 @@ use Rattle.fuse_fs.specs.Answers.{context_of}
 use Rattle.server_requests.specs.Fronts.{first_name_at}
 use Rattle.server_requests.specs.Reading.{Parser, record_parser}
 use Rattle.server_segments.specs.declared.error.Error.TheVariants.{EncodeMessage}
-use Rattle.virtiofsd_fuse.specs.DataApart.{begins_a_write}
-use Rattle.virtiofsd_fuse.specs.Grammar.{Meaning, Asks, FileCommand, Given, ended, given}
-use Rattle.virtiofsd_fuse.specs.Serving.{Setting, setting, served, ServedMessage, no_reply}
+use Rattle.server_meanings.specs.DataApart.{begins_a_write}
+use Rattle.server_meanings.specs.Grammar.{Meaning, Asks, FileCommand, Given, ended, given}
+use Rattle.server_meanings.specs.Serving.{Setting, setting, served, ServedMessage, no_reply}
 use Rattle.server_phases.specs.declared.waiting.Waiting.{Waiting}
 use Rattle.server_phases.specs.declared.asking.DecodedRequest.{DecodedRequest}
 use Rattle.server_phases.specs.declared.asking.DecodedRequest.TheVariants as asked

@@ -6,9 +6,9 @@ use Rattle.fuse_fs.specs.declared.answers.Entry.{Entry}
 use Rattle.fuse_fs.specs.Calls.{FileCall, FileAnswer, Listed, Lookup, HasEntry, Entries}
 use Rattle.server_replies.specs.Entries.{entry_len, entry_bytes, is_dot, no_node, EIO, EOVERFLOW}
 use Rattle.server_replies.specs.WholeReplies.{listing_bytes}
-use Rattle.virtiofsd_fuse.specs.Grammar.{FileCommand, Lists}
-use Rattle.virtiofsd_fuse.specs.Listings.{forget_lookup}
-use Rattle.virtiofsd_fuse.specs.Serving.{ServedMessage, Setting, commanded}
+use Rattle.server_meanings.specs.Grammar.{FileCommand, Lists}
+use Rattle.server_meanings.specs.Listings.{forget_lookup}
+use Rattle.server_meanings.specs.Serving.{ServedMessage, Setting, commanded}
 use Rattle.server_phases.specs.declared.listing.Listing.{Listing}
 use Rattle.server_phases.specs.declared.listing.ListingReply.{ListingReply}
 use Rattle.server_phases.specs.declared.listing.NotAdded.{NotAdded}

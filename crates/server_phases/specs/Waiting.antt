@@ -6,8 +6,8 @@ use Rattle.fuse_fs.specs.Calls.{Readlink, Symlink, Mknod, Mkdir, Link, Open, Rea
 use Rattle.fuse_fs.specs.Calls.{Statfs, Readdir, Getxattr, Listxattr, Opendir, Getlk, Setlk, Setlkw, Bmap}
 use Rattle.fuse_fs.specs.Calls.{Ioctl, Poll, NotifyReply, Create, Lseek, CopyFileRange, TmpFile}
 use Rattle.server_calls.specs.Callers.{IsFor}
-use Rattle.virtiofsd_fuse.specs.Listings.{readdir_call}
-use Rattle.virtiofsd_fuse.specs.Grammar.{FileCommand, One, Starts, Lists, known_options}
+use Rattle.server_meanings.specs.Listings.{readdir_call}
+use Rattle.server_meanings.specs.Grammar.{FileCommand, One, Starts, Lists, known_options}
 use Rattle.server_phases.specs.declared.waiting.Awaits.{Awaits}
 use Rattle.server_phases.specs.declared.waiting.Awaits.TheVariants as awaits
 use Rattle.server_phases.specs.declared.waiting.Waiting.{Waiting}

@@ -6,7 +6,7 @@ ghost use Rattle.fuse_fs.specs.Calls.{FileCall, is_handle, Done, Bytes};
 ghost use Rattle.fuse_values.specs.Answers.{answer_of};
 ghost use Rattle.server_replies.specs.WholeReplies.{reply_bytes, reported_bytes};
 ghost use Rattle.server_calls.specs.Requests.{entry_node};
-ghost use Rattle.virtiofsd_fuse.specs.Serving.{replied, undone};
+ghost use Rattle.server_meanings.specs.Serving.{replied, undone};
 ghost use Rattle.server_phases.specs.Answering.{ReportsBytes, takes, reports_nothing, fails_never};
 ghost use Rattle.server_phases.specs.Answering.{brings_entry};
 ghost use Rattle.server_phases.specs.Answering.{back_by, forget_calls, served_by, is_too_long};

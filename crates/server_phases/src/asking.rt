@@ -9,11 +9,11 @@ ghost use Rattle.fuse_wire.specs.Opcodes.{opcode_of};
 ghost use Rattle.server_calls.specs.Callers.{CallShows};
 ghost use Rattle.server_calls.specs.Requests.{batch_forget_call, read_call, write_call};
 ghost use Rattle.server_replies.specs.WholeReplies.{error_bytes};
-ghost use Rattle.virtiofsd_fuse.specs.DataApart.{begins_a_write, is_write};
-ghost use Rattle.virtiofsd_fuse.specs.Grammar.{Meaning, Replies, Asks, One, Starts, Lists, given, ended};
-ghost use Rattle.virtiofsd_fuse.specs.Grammar.{known_options, meant, meaning, write_row};
-ghost use Rattle.virtiofsd_fuse.specs.Listings.{listing_of};
-ghost use Rattle.virtiofsd_fuse.specs.Serving.{Setting, setting};
+ghost use Rattle.server_meanings.specs.DataApart.{begins_a_write, is_write};
+ghost use Rattle.server_meanings.specs.Grammar.{Meaning, Replies, Asks, One, Starts, Lists, given, ended};
+ghost use Rattle.server_meanings.specs.Grammar.{known_options, meant, meaning, write_row};
+ghost use Rattle.server_meanings.specs.Listings.{listing_of};
+ghost use Rattle.server_meanings.specs.Serving.{Setting, setting};
 ghost use Rattle.server_phases.specs.Asking.{IsDecoded, IsAskedBy, HasAsker, ReportsData, IsRequestFront};
 ghost use Rattle.server_phases.specs.Asking.{BeginsRecord, DecodedStandsIn, reported_reply};
 
@@ -26,11 +26,11 @@ use fuse_wire::constants::READ_LOCKOWNER;
 use fuse_wire::{Errno, FsOptions};
 use server_calls::values::number_if;
 use server_calls::writes::write_flags;
+use server_meanings::{MAX_REQUEST_LEN, REQUEST_FRONT};
 use server_replies::fronts::Front;
 use server_replies::replies::OUT_HEADER_LEN;
 use server_requests::source::{Flat, Source};
 use server_segments::Error;
-use virtiofsd_fuse::{MAX_REQUEST_LEN, REQUEST_FRONT};
 
 /// The length in bytes of a WRITE's record (`struct fuse_write_in`).
 pub(crate) const WRITE_IN_LEN: usize = 40;

@@ -4,20 +4,20 @@ ghost use Rattle.std.specs.Prelude.{◌+◌, Some, drop};
 ghost use Rattle.fuse_fs.specs.Answers.{context_of};
 ghost use Rattle.fuse_wire.specs.Opcodes.{opcode_of};
 ghost use Rattle.server_requests.specs.Fronts.{record_len};
-ghost use Rattle.virtiofsd_fuse.specs.Grammar.{given, meant, row};
-ghost use Rattle.virtiofsd_fuse.specs.Serving.{setting};
+ghost use Rattle.server_meanings.specs.Grammar.{given, meant, row};
+ghost use Rattle.server_meanings.specs.Serving.{setting};
 ghost use Rattle.server_phases.specs.Asking.{IsAskedBy, IsRowReported, IsDecoded, StandsBehindHeader};
 
 use crate::asking::{DecodedRequest, refused};
 use crate::session::Session;
 use fuse_in::InHeader;
 use fuse_wire::{Errno, Opcode};
+use server_meanings::{MAX_REQUEST_LEN, opcode_of};
 use server_requests::source::Flat;
-use virtiofsd_fuse::{MAX_REQUEST_LEN, opcode_of};
 
 impl Session {
     // Decodes a request by its opcode.
-    #[tactic(auto, unfolding(virtiofsd_fuse::specs::Grammar::row))]
+    #[tactic(auto, unfolding(server_meanings::specs::Grammar::row))]
     fn ask_row<'a>(
         &self,
         opcode: Opcode,

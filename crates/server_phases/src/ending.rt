@@ -4,8 +4,8 @@ ghost use Rattle.std.specs.Prelude.{◌≡◌, ℕ, ◌<◌, [], ◌∷◌, List
 ghost use Rattle.std.specs.Prelude.{OnOk, OnErr};
 ghost use Rattle.fuse_fs.specs.Calls.{Init, suits};
 ghost use Rattle.fuse_values.specs.Answers.{answer_of};
-ghost use Rattle.virtiofsd_fuse.specs.Grammar.{FileCommand, known_options};
-ghost use Rattle.virtiofsd_fuse.specs.Serving.{setting, replied, start_options, start_answered};
+ghost use Rattle.server_meanings.specs.Grammar.{FileCommand, known_options};
+ghost use Rattle.server_meanings.specs.Serving.{setting, replied, start_options, start_answered};
 ghost use Rattle.server_phases.specs.Answering.{Gives, ReportsBytes, takes, forget_calls, served_by, data_of};
 ghost use Rattle.server_phases.specs.Answering.{init_offer_of, leaves_options, is_too_long, IsRefusedFor};
 ghost use Rattle.server_phases.specs.Waiting.{WaitsFor, first_call};
@@ -19,9 +19,9 @@ use crate::waiting::{Awaits, Waiting};
 use bitflags::Flags;
 use fuse_values::FileAnswer;
 use fuse_wire::FsOptions;
+use server_meanings::{agree, known};
 use server_replies::fronts::Front;
 use server_replies::init::start_bytes;
-use virtiofsd_fuse::{agree, known};
 
 // The options after a call other than INIT.
 fn left_options(options: FsOptions, awaits: &Awaits) -> FsOptions

@@ -3,10 +3,10 @@
 ghost use Rattle.std.specs.Prelude.{◌≡◌, ◌+◌, ℕ, List, ◌++◌, length, true, Some};
 ghost use Rattle.fuse_fs.specs.Answers.{context_of};
 ghost use Rattle.server_requests.specs.Fronts.{record_len};
-ghost use Rattle.virtiofsd_fuse.specs.Grammar.{row, forgets_asked, batch_forget_row, init_row, listing_row};
-ghost use Rattle.virtiofsd_fuse.specs.Grammar.{read_row, write_row, ended, given};
-ghost use Rattle.virtiofsd_fuse.specs.RowMeanings.{is_single};
-ghost use Rattle.virtiofsd_fuse.specs.Serving.{setting};
+ghost use Rattle.server_meanings.specs.Grammar.{row, forgets_asked, batch_forget_row, init_row, listing_row};
+ghost use Rattle.server_meanings.specs.Grammar.{read_row, write_row, ended, given};
+ghost use Rattle.server_meanings.specs.RowMeanings.{is_single};
+ghost use Rattle.server_meanings.specs.Serving.{setting};
 ghost use Rattle.server_phases.specs.Asking.{DecodedStandsIn, IsAskedBy, IsRowReported, IsDecoded};
 ghost use Rattle.server_phases.specs.Asking.{StandsBehindHeader};
 
@@ -17,14 +17,14 @@ use crate::asking::{
 use crate::session::Session;
 use fuse_in::InHeader;
 use fuse_wire::Opcode;
+use server_meanings::{
+    ForgetsMeaning, InitMeaning, ListingMeaning, RequestMeaning, forgets_meaning, init_meaning,
+    listing_meaning, read_with_room, row_meaning,
+};
 use server_replies::fronts::Front;
 use server_replies::init::versions;
 use server_requests::forgets::PairCount;
 use server_requests::source::Flat;
-use virtiofsd_fuse::{
-    ForgetsMeaning, InitMeaning, ListingMeaning, RequestMeaning, forgets_meaning, init_meaning,
-    listing_meaning, read_with_room, row_meaning,
-};
 
 impl Session {
     /// Decodes a request with one plain call, or with none.

@@ -3,8 +3,8 @@
 ghost use Rattle.std.specs.Prelude.{◌≡◌, List, ℕ, length, drop, IsTrue, bit_and};
 ghost use Rattle.server_replies.specs.PageSizes.{is_page_size};
 ghost use Rattle.server_requests.specs.Fronts.{first_name_at};
-ghost use Rattle.virtiofsd_fuse.specs.Grammar.{meaning, known_options};
-ghost use Rattle.virtiofsd_fuse.specs.Serving.{setting};
+ghost use Rattle.server_meanings.specs.Grammar.{meaning, known_options};
+ghost use Rattle.server_meanings.specs.Serving.{setting};
 ghost use Rattle.server_phases.specs.Asking.{IsDecoded, HasAsker, HasAskerByFront, IsRequestFront};
 ghost use Rattle.server_phases.specs.Asking.{DecodedStandsIn, FrontStandsIn, IsDecodedByFront};
 ghost use Rattle.server_phases.specs.Asking.{front_suffices, is_decoded};
@@ -13,8 +13,8 @@ use crate::asking::{AskedFront, DecodedRequest, ask_write_front};
 use bitflags::Flags;
 use fuse_in::InHeader;
 use fuse_wire::FsOptions;
+use server_meanings::{REQUEST_FRONT, begins_a_write, known};
 use server_requests::source::{Flat, Source};
-use virtiofsd_fuse::{REQUEST_FRONT, begins_a_write, known};
 
 /// The page size of the guest, and the options that client and server agreed on in INIT.
 #[derive(Drop)]

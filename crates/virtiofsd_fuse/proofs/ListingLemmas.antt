@@ -4,11 +4,11 @@ use Rattle.std.proofs.Common.{refl, sym, ap, ◌∙◌, subst, arith, append_ass
 use Rattle.std.specs.Prelude.{IsTrue, OnOk, OnErr, slice_get}
 use Rattle.fuse_fs.specs.declared.answers.Entry.{Entry}
 use Rattle.fuse_fs.specs.Calls.{FileCall, FileAnswer, FileRun, Listed, Lookup, HasEntry, Failed, suits}
-use Rattle.virtiofsd_fuse.specs.Listings.{ListRequest, ListingResult, Next, forget_lookup, after_call, with_entry, list_entries}
+use Rattle.server_meanings.specs.Listings.{ListRequest, ListingResult, Next, forget_lookup, after_call, with_entry, list_entries}
 use Rattle.server_replies.specs.Entries.{Fit, FitsIn, IsFull, IsWrong, entry_len, entry_bytes, fit_of, is_dot, no_node, AfterEntry}
 use Rattle.server_replies.specs.Entries.{after_entry}
-use Rattle.virtiofsd_fuse.specs.ListingRuns.{ListRun, EntryRun}
-use Rattle.virtiofsd_fuse.specs.Serving.{May}
+use Rattle.server_meanings.specs.ListingRuns.{ListRun, EntryRun}
+use Rattle.server_meanings.specs.Serving.{May}
 
 -- the first of some entries, and the others
 pub first_of : (ds : List Listed) (d : Listed) → Some d ≡ slice_get ds 0 → ds ≡ d ∷ drop 1 ds

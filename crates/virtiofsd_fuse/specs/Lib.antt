@@ -1,11 +1,3 @@
 pub mod Carrying
-pub mod Examples
-pub mod ExamplesOfMemory
-pub mod Grammar
-pub mod ListingRuns
-pub mod Listings
-pub mod RowMeanings
-pub mod WantOfMemory
-pub mod Serving
 pub mod ReadApart
-pub mod DataApart
+pub mod ServerHandles

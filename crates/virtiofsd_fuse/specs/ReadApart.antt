@@ -8,7 +8,7 @@ use Rattle.server_segments.specs.declared.error.Error.TheVariants.{DecodeMessage
 use Rattle.server_requests.specs.Reading.{Parser, Faults, ◌>>=◌, ◌>>◌, give, needs, record_parser}
 use Rattle.server_calls.specs.Requests.{read_call}
 use Rattle.virtiofsd_fuse.specs.declared.reads.ReadRequest.{ReadRequest}
-use Rattle.virtiofsd_fuse.specs.Grammar.{Meaning, Asks, One}
+use Rattle.server_meanings.specs.Grammar.{Meaning, Asks, One}
 
 -- the meaning of a READ with this room, in which the reply's header fits
 abbrev pub read_meaning : ReadRequest → (room : ℕ) → Meaning

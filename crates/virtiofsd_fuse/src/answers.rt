@@ -6,7 +6,7 @@ ghost use Rattle.server_segments.specs.Errors.{lacks_memory};
 ghost use Rattle.server_replies.specs.WholeReplies.{with_written, whole_or_none, reported_bytes};
 ghost use Rattle.server_replies.specs.WholeReplies.{LeavesWriter};
 ghost use Rattle.server_calls.specs.Requests.{entry_node, forget_node};
-ghost use Rattle.virtiofsd_fuse.specs.Serving.{undone, all_done};
+ghost use Rattle.server_meanings.specs.Serving.{undone, all_done};
 
 use crate::server::Server;
 use fuse_fs::{Context, FileSystem};

@@ -1,23 +1,20 @@
 //! BATCH_FORGET: decreases the lookup counts of nodes.
 
 ghost use Rattle.std.specs.Prelude.{◌≡◌, ◌<◌, ◌≤◌, ◌^◌, []};
-ghost use Rattle.virtiofsd_fuse.specs.Grammar.{given, batch_forget_row, forgets_asked};
-ghost use Rattle.virtiofsd_fuse.specs.WantOfMemory.{row_owns};
-ghost use Rattle.virtiofsd_fuse.specs.Serving.{RowHandles, Leaves};
+ghost use Rattle.server_meanings.specs.Grammar.{given, batch_forget_row, forgets_asked};
+ghost use Rattle.server_meanings.specs.WantOfMemory.{row_owns};
+ghost use Rattle.virtiofsd_fuse.specs.ServerHandles.{RowHandles, Leaves};
 
-use crate::meanings_apart::{ForgetsMeaning, forgets_meaning};
 use crate::server::Server;
 use crate::session::silence;
 use fuse_fs::{Context, FileSystem};
 use fuse_in::InHeader;
+use server_meanings::{ForgetsMeaning, forgets_meaning};
 use server_replies::replies::reply_error;
 use server_requests::forgets::read_pairs;
 use server_requests::source::Segments;
 use server_segments::{Error, Reader, Writer};
 use std::alloc::Global;
-
-// The most pairs of one request: those of 2^20 bytes.
-pub(crate) const MAX_FORGETS: u32 = 65536;
 
 impl<F: FileSystem> Server<F> {
     // BATCH_FORGET of `count` pairs.

@@ -2,11 +2,8 @@
 #![tactic(auto)]
 
 mod answers;
-mod data_apart;
 mod forgets;
 mod listings;
-mod meanings;
-mod meanings_apart;
 mod performing;
 mod performing_names;
 mod reads;
@@ -15,19 +12,13 @@ mod server;
 mod session;
 mod writes;
 
-pub use data_apart::{REPLY_FRONT, REQUEST_FRONT, begins_a_write};
 pub use fuse_fs::{
     ChangeCalls, ChangesNothing, Context, DirEntry, DirectoryIterator, Entry, Extensions, FewCalls,
     FileNumber, FileSystem, FileSystemBase, GetxattrReply, ListxattrReply, NoEntries, OpenCalls,
     OpensNothing, PositionedFile, SecContext, SerializableFileSystem, Timeout, WritevFlags,
     ZeroCopyReader, ZeroCopyWriter, defaults,
 };
-pub use meanings::{RequestMeaning, row_meaning};
-pub use meanings_apart::{
-    ForgetsMeaning, InitMeaning, ListingMeaning, forgets_meaning, init_meaning, listing_meaning,
-    read_with_room,
-};
 pub use reads::{ReadReply, ReadRequest};
-pub use server::{MAX_REQUEST_LEN, Server, opcode_of};
+pub use server::Server;
+pub use server_meanings::MAX_REQUEST_LEN;
 pub use server_segments::{DescriptorType, Error, Reader, Writer, ZcReader, ZcWriter};
-pub use session::{agree, known};

@@ -4,8 +4,8 @@ ghost use Rattle.std.specs.Prelude.{◌≡◌, ◌<◌, ◌^◌, [], false};
 ghost use Rattle.fuse_values.specs.Values.{call_of};
 ghost use Rattle.server_calls.specs.Callers.{Named, NamedRecord, Made, shape_of};
 ghost use Rattle.server_calls.specs.Requests.{owns_memory};
-ghost use Rattle.virtiofsd_fuse.specs.Grammar.{Asks, One};
-ghost use Rattle.virtiofsd_fuse.specs.Serving.{ServerHandles, Leaves};
+ghost use Rattle.server_meanings.specs.Grammar.{Asks, One};
+ghost use Rattle.virtiofsd_fuse.specs.ServerHandles.{ServerHandles, Leaves};
 
 use crate::server::Server;
 use fuse_fs::{FileNumber, FileSystem};

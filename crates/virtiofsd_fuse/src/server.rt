@@ -2,28 +2,23 @@
 
 ghost use Rattle.std.specs.Prelude.{◌≡◌, ◌+◌, ◌<◌, ◌≤◌, ◌^◌, true, false, [], length, IfOk, OnOk, OnErr};
 ghost use Rattle.std.specs.Prelude.{IsTrue, bit_and};
-ghost use Rattle.fuse_wire.specs.Opcodes.{opcode_of};
 ghost use Rattle.server_replies.specs.PageSizes.{is_page_size};
 ghost use Rattle.server_segments.specs.Errors.{lacks_memory};
-ghost use Rattle.virtiofsd_fuse.specs.Grammar.{given, meant, meaning, known_options};
-ghost use Rattle.virtiofsd_fuse.specs.RowMeanings.{is_single};
-ghost use Rattle.virtiofsd_fuse.specs.WantOfMemory.{takes_memory, body_takes_memory, may_take_memory};
+ghost use Rattle.server_meanings.specs.Grammar.{given, meant, meaning, known_options};
+ghost use Rattle.server_meanings.specs.RowMeanings.{is_single};
+ghost use Rattle.server_meanings.specs.WantOfMemory.{takes_memory, body_takes_memory, may_take_memory};
 
-use crate::meanings::{RequestMeaning, row_meaning};
-use crate::session::{known, silence};
+use crate::session::silence;
 use bitflags::Flags;
 use fuse_fs::FileSystem;
 use fuse_in::InHeader;
 use fuse_wire::{Errno, FsOptions, Opcode};
+use server_meanings::{MAX_REQUEST_LEN, RequestMeaning, known, opcode_of, row_meaning};
 use server_replies::replies::reply_error;
 use server_requests::records::read_record;
 use server_requests::source::Segments;
 use server_segments::{Error, Reader, Writer};
 use std::alloc::Global;
-
-/// The length of the longest request, in bytes: 2^20 of data, and one page (virtiofsd's
-/// `MAX_BUFFER_SIZE` and `FUSE_BUFFER_HEADER_SIZE`).
-pub const MAX_REQUEST_LEN: u32 = 0x101000;
 
 /// A server of one file system.
 #[derive(Drop)]
@@ -35,18 +30,8 @@ pub struct Server<F> {
     ghost known: { bit_and options.0 known_options ≡ options.0 },
 }
 
-/// The opcode with this number, or None.
-pub fn opcode_of(number: u32) -> Option<Opcode>
-    ensures { result ≡ opcode_of number }
-{
-    match Opcode::try_from(number) {
-        Ok(opcode) => Some(opcode),
-        Err(()) => None,
-    }
-}
-
 impl<F: FileSystem> Server<F> {
-    ghost use Rattle.virtiofsd_fuse.specs.Serving.{ServerHandles, OpcodeHandles, Leaves};
+    ghost use Rattle.virtiofsd_fuse.specs.ServerHandles.{ServerHandles, OpcodeHandles, Leaves};
 
     /// A server without agreed options. The guest's pages have `page_size` bytes.
     pub fn new(fs: F, page_size: u32) -> Server<F>
@@ -138,7 +123,7 @@ impl<F: FileSystem> Server<F> {
     }
 
     // Serves a request by its opcode.
-    #[tactic(auto, unfolding(crate::specs::Grammar::row))]
+    #[tactic(auto, unfolding(server_meanings::specs::Grammar::row))]
     #[inline(always)]
     fn dispatch(
         &mut self,

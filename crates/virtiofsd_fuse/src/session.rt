@@ -2,40 +2,21 @@
 
 ghost use Rattle.std.specs.Prelude.{◌≡◌, ◌<◌, ◌^◌, [], bit_and, Ok, false};
 ghost use Rattle.fuse_fs.specs.Calls.{Destroy, Done};
-ghost use Rattle.virtiofsd_fuse.specs.Grammar.{Asks, Starts, init_row, known_options};
-ghost use Rattle.virtiofsd_fuse.specs.Serving.{RowHandles, ServerHandles, Leaves, agreed};
+ghost use Rattle.server_meanings.specs.Grammar.{Asks, Starts, init_row, known_options};
+ghost use Rattle.virtiofsd_fuse.specs.ServerHandles.{RowHandles, ServerHandles, Leaves};
 
-use crate::meanings_apart::{InitMeaning, init_meaning};
 use crate::server::Server;
 use bitflags::Flags;
 use fuse_fs::FileSystem;
 use fuse_in::InHeader;
 use fuse_wire::FsOptions;
 use server_calls::session::make_init_call;
+use server_meanings::{InitMeaning, agree, init_meaning};
 use server_replies::fronts::Front;
 use server_replies::init::{start_bytes, versions};
 use server_replies::replies::{reply_error, reply_front};
 use server_requests::source::Segments;
 use server_segments::{Error, Writer};
-
-/// The known options among these bits.
-#[tactic(auto, using(crate::proofs::Options::known_bits_are, crate::proofs::Options::known_twice))]
-pub fn known(bits: u64) -> FsOptions
-    ensures options { result.0 ≡ bit_and bits known_options }
-    ensures known { bit_and result.0 known_options ≡ result.0 }
-{
-    FsOptions::from_bits_truncate(bits)
-}
-
-/// The agreed options: those of `capable` that the file system wants, or that are agreed by default.
-#[tactic(auto, using(crate::proofs::Options::some_known))]
-pub fn agree(capable: FsOptions, wanted: FsOptions) -> FsOptions
-    requires { bit_and capable.0 known_options ≡ capable.0 }
-    ensures options { result.0 ≡ agreed capable.0 wanted.0 }
-    ensures known { bit_and result.0 known_options ≡ result.0 }
-{
-    capable & (wanted | FsOptions::DEFAULT)
-}
 
 impl<F: FileSystem> Server<F> {
     // INIT with the client's known options: calls the file system, and sets the agreed options.

@@ -1,8 +1,8 @@
 //! WRITE: writes the data of a request to a file.
 
 ghost use Rattle.std.specs.Prelude.{◌≡◌, ◌<◌, ◌^◌, [], false};
-ghost use Rattle.virtiofsd_fuse.specs.Grammar.{write_row};
-ghost use Rattle.virtiofsd_fuse.specs.Serving.{RowHandles, Leaves};
+ghost use Rattle.server_meanings.specs.Grammar.{write_row};
+ghost use Rattle.virtiofsd_fuse.specs.ServerHandles.{RowHandles, Leaves};
 
 use crate::server::Server;
 use fuse_fs::FileSystem;

@@ -11,9 +11,9 @@ use Rattle.fs_regions.specs.declared.step.CourseStep.TheVariants as step
 use Rattle.fuse_fs.specs.Calls.{Destroy, Done}
 use Rattle.server_replies.specs.WholeReplies.{error_bytes, reply_bytes}
 use Rattle.server_requests.specs.Reading.{record_parser}
-use Rattle.virtiofsd_fuse.specs.Examples.{le16}
-use Rattle.virtiofsd_fuse.specs.Grammar.{meaning, meant, row}
-use Rattle.virtiofsd_fuse.specs.Serving.{May}
+use Rattle.server_meanings.specs.Examples.{le16}
+use Rattle.server_meanings.specs.Grammar.{meaning, meant, row}
+use Rattle.server_meanings.specs.Serving.{May}
 use Rattle.plain_machine.specs.Examples.{queue}
 use Rattle.plain_machine.specs.StepBy.{FindFlags}
 use Rattle.live_machine.specs.Live.{DecodesRequestSo, EndsPopSo, PushesChainSo, event_acts}

@@ -3,7 +3,7 @@ use Rattle.std.proofs.Common.{[], ◌∷◌, refl}
 use Rattle.fuse_fs.specs.Calls.{FileAnswer, FileCall}
 use Rattle.fuse_values.specs.Answers.{answer_of}
 use Rattle.fuse_values.specs.declared.answer.FileAnswer as made_answer
-use Rattle.virtiofsd_fuse.specs.Serving.{May}
+use Rattle.server_meanings.specs.Serving.{May}
 use Rattle.live_machine.specs.Files.{RunsOverFiles}
 use Rattle.live_machine.specs.Live.{ReceivesAnswer, after_answer}
 use Rattle.fs_chain.specs.Holds.{Answers, Machine}

@@ -2,8 +2,8 @@
 use Rattle.std.proofs.Common.{◌≡◌, List, [], ◌∷◌, ◌++◌, true, refl, subst, sym}
 use Rattle.fs_queue.specs.Returning.{Store}
 use Rattle.plain_machine.specs.Step.{Exchange}
-use Rattle.virtiofsd_fuse.specs.Examples.{le16}
-use Rattle.virtiofsd_fuse.specs.Serving.{May}
+use Rattle.server_meanings.specs.Examples.{le16}
+use Rattle.server_meanings.specs.Serving.{May}
 use Rattle.live_machine.specs.Live.{Happens, LiveEvent, LiveRun, LiveState, InFlightChain, PushesChain}
 use Rattle.live_machine.specs.Runs.{IsServedPhase, ReturnedIsStepBy}
 use Rattle.worked_callers.specs.WorkedRuns.{LeadsToAStep}

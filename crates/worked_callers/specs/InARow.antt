@@ -3,7 +3,7 @@ use Rattle.std.specs.Prelude.{ℕ, true, List, [], ◌∷◌, ◌++◌, None}
 use Rattle.vm_memory.specs.Memory.{Memory}
 use Rattle.fs_queue.specs.Returning.{Store}
 use Rattle.fuse_fs.specs.Calls.{Destroy, Done}
-use Rattle.virtiofsd_fuse.specs.Examples.{le16, zeros}
+use Rattle.server_meanings.specs.Examples.{le16, zeros}
 use Rattle.plain_machine.specs.Examples.{blank, descriptor_bytes, put}
 use Rattle.plain_machine.specs.Step.{Exchange}
 use Rattle.plain_machine.specs.StepBy.{after_stores, stores_among}

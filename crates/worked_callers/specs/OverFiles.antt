@@ -3,7 +3,7 @@ use Rattle.std.specs.Prelude.{◌≡◌, ℕ, List, [], ◌∷◌, ◌++◌}
 use Rattle.fuse_fs.specs.Calls.{FileCall}
 use Rattle.fuse_values.specs.Answers.{answer_of}
 use Rattle.fuse_values.specs.declared.answer.FileAnswer as made_answer
-use Rattle.virtiofsd_fuse.specs.Serving.{May}
+use Rattle.server_meanings.specs.Serving.{May}
 use Rattle.server_phases.specs.Answering.{ReportsBytes}
 use Rattle.live_machine.specs.Files.{over}
 use Rattle.live_machine.specs.Live.{Asked, InFlightChain, LiveRun, ReceivesAnswer, after_answer, asked_chain}

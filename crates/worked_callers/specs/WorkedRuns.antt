@@ -4,8 +4,8 @@ use Rattle.fs_queue.specs.Returning.{Store}
 use Rattle.fs_regions.specs.declared.step.CourseStep.TheVariants as step
 use Rattle.fuse_fs.specs.Calls.{Destroy, Done, FileRun}
 use Rattle.plain_machine.specs.Step.{Exchange, State}
-use Rattle.virtiofsd_fuse.specs.Examples.{le16}
-use Rattle.virtiofsd_fuse.specs.Serving.{May}
+use Rattle.server_meanings.specs.Examples.{le16}
+use Rattle.server_meanings.specs.Serving.{May}
 use Rattle.live_machine.specs.Live.{DecodesRequest, EndsPop, Happens, LiveEvent, LiveRun, LiveState}
 use Rattle.live_machine.specs.Live.{InFlightChain, PushesChain, ReceivesAnswer, calls_in}
 use Rattle.live_machine.specs.Overlap as overlap

@@ -1,6 +1,6 @@
 use Rattle.std.proofs.Common.{◌≡◌, ◌∙◌, ℕ, List, ap, arith, length, map, refl, sym, min}
 use Rattle.vm_memory_core.specs.Window.{byte_in, places}
-use Rattle.virtiofsd_fuse.specs.Grammar.{meaning}
+use Rattle.server_meanings.specs.Grammar.{meaning}
 use Rattle.fs_device.proofs.AnsweringLemmas.{front_is_all}
 use Rattle.fs_device.proofs.ReadingLemmas.{answers_read, reads_eighty}
 use Rattle.fs_device.proofs.short_way.read_in_place.Goals as goal

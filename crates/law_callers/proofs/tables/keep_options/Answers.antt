@@ -1,7 +1,7 @@
 use Rattle.std.proofs.Common.{◌∷◌, refl}
 use Rattle.fuse_fs.specs.Calls.{Destroy, Forget}
-use Rattle.virtiofsd_fuse.specs.Examples.{nobody}
-use Rattle.virtiofsd_fuse.specs.Grammar.{Asks, One}
+use Rattle.server_meanings.specs.Examples.{nobody}
+use Rattle.server_meanings.specs.Grammar.{Asks, One}
 use Rattle.law_callers.proofs.tables.keep_options.Goals as goal
 
 pub returns-clause-forget : goal.returns-clause-forget

@@ -1,5 +1,5 @@
 use Rattle.std.proofs.Common.{List, ℕ, [], ◌∷◌, None, sym, ap, ◌∙◌}
-use Rattle.virtiofsd_fuse.specs.Serving.{ServedMessage}
+use Rattle.server_meanings.specs.Serving.{ServedMessage}
 use Rattle.server_phases.proofs.Suiting.{data_fits, data_long}
 use Rattle.server_phases.proofs.answering.data_answered.Goals as goal
 

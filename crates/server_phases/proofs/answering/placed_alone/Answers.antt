@@ -1,7 +1,7 @@
 use Rattle.std.proofs.Common.{List, length, [], ◌∷◌, refl, sym, ap, ◌∙◌}
 use Rattle.std.specs.Prelude.{nat_lt}
 use Rattle.fuse_fs.specs.Calls.{FileCall}
-use Rattle.virtiofsd_fuse.specs.Serving.{replied}
+use Rattle.server_meanings.specs.Serving.{replied}
 use Rattle.server_phases.proofs.Suiting.{none_back}
 use Rattle.server_phases.proofs.answering.placed_alone.Goals as goal
 

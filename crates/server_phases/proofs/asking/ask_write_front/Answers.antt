@@ -2,7 +2,7 @@ use Rattle.std.proofs.Common.{◌≡◌, ◌-◌, Ok, drop, length, refl, sym, s
 use Rattle.std.proofs.lemmas.List.{drop-drop, length-drop}
 use Rattle.fuse_in.specs.Records.{in_header}
 use Rattle.server_requests.specs.Reading.{record_parser}
-use Rattle.virtiofsd_fuse.proofs.Rows.{meaning_head}
+use Rattle.server_meanings.proofs.Rows.{meaning_head}
 use Rattle.server_phases.specs.Asking.{BeginsRecord}
 use Rattle.server_phases.proofs.Fronts.{behind, front_begins, record_begins, record_by_front}
 use Rattle.server_phases.proofs.Reporting.{has_asker}

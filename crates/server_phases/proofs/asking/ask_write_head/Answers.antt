@@ -1,8 +1,8 @@
 use Rattle.std.proofs.Common.{Some, drop}
 use Rattle.fuse_wire.specs.declared.opcodes.Opcode.TheVariants as op
 use Rattle.fuse_wire.specs.Opcodes.{opcode_of}
-use Rattle.virtiofsd_fuse.specs.Grammar.{given, row}
-use Rattle.virtiofsd_fuse.proofs.Rows.{meant_long, meant_row}
+use Rattle.server_meanings.specs.Grammar.{given, row}
+use Rattle.server_meanings.proofs.Rows.{meant_long, meant_row}
 use Rattle.server_phases.proofs.Fronts.{write_is}
 use Rattle.server_phases.proofs.asking.ask_write_head.Goals as goal
 

@@ -1,7 +1,7 @@
 use Rattle.std.proofs.Common.{refl, drop}
 use Rattle.fuse_in.specs.Records.{write_in}
-use Rattle.virtiofsd_fuse.specs.Grammar.{given}
-use Rattle.virtiofsd_fuse.proofs.Rows.{write_asks, write_short}
+use Rattle.server_meanings.specs.Grammar.{given}
+use Rattle.server_meanings.proofs.Rows.{write_asks, write_short}
 use Rattle.server_phases.proofs.Fronts.{record_by_front, fault_by_front}
 use Rattle.server_phases.proofs.asking.ask_write_row.Goals as goal
 

@@ -1,8 +1,8 @@
 use Rattle.std.proofs.Common.{refl, sym, ap}
 use Rattle.fuse_fs.specs.declared.answers.Context.{Context}
 use Rattle.fuse_fs.specs.Calls.{Readdir}
-use Rattle.virtiofsd_fuse.specs.Grammar.{Lists}
-use Rattle.virtiofsd_fuse.specs.Listings.{listing_of}
+use Rattle.server_meanings.specs.Grammar.{Lists}
+use Rattle.server_meanings.specs.Listings.{listing_of}
 use Rattle.server_phases.proofs.asking.entries_asked.Goals as goal
 
 pub returns-clause-reported : goal.returns-clause-reported

@@ -1,5 +1,5 @@
 use Rattle.std.proofs.Common.{refl, sym}
-use Rattle.virtiofsd_fuse.specs.Grammar.{Starts}
+use Rattle.server_meanings.specs.Grammar.{Starts}
 use Rattle.server_phases.proofs.asking.init_asked.Goals as goal
 
 pub returns-clause-reported : goal.returns-clause-reported

@@ -3,7 +3,7 @@ use Rattle.fuse_fs.specs.declared.answers.Context.{Context}
 use Rattle.fuse_fs.specs.Calls.{BatchForget}
 use Rattle.fuse_values.specs.Values.{pairs_in}
 use Rattle.server_calls.specs.Requests.{batch_forget_call}
-use Rattle.virtiofsd_fuse.specs.Grammar.{One}
+use Rattle.server_meanings.specs.Grammar.{One}
 use Rattle.server_phases.proofs.asking.pairs_asked.Goals as goal
 
 pub returns-clause-reported : goal.returns-clause-reported

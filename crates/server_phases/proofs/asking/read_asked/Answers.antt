@@ -1,6 +1,6 @@
 use Rattle.std.proofs.Common.{refl, ◌-◌}
 use Rattle.server_calls.specs.Requests.{read_call}
-use Rattle.virtiofsd_fuse.specs.Grammar.{One}
+use Rattle.server_meanings.specs.Grammar.{One}
 use Rattle.server_phases.proofs.asking.read_asked.Goals as goal
 
 pub returns-clause-reported : goal.returns-clause-reported

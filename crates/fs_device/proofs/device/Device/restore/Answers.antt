@@ -1,7 +1,7 @@
 use Rattle.std.proofs.Common.{◌≡◌, ℕ, bit_and, List, ap, sym, subst, ◌∙◌, rules}
 use Rattle.fs_queue.specs.Queue.{Queue}
 use Rattle.fs_record.specs.Record.{IsRecordFor}
-use Rattle.virtiofsd_fuse.proofs.Options.{known_bits_are}
+use Rattle.server_meanings.proofs.Options.{known_bits_are}
 use Rattle.fs_device.proofs.device.Device.restore.Goals as goal
 
 -- the options of a record are known, so that the server keeps each of them

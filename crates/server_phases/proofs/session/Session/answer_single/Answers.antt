@@ -1,6 +1,6 @@
 use Rattle.std.proofs.Common.{◌≡◌, ℕ, List, [], ◌∷◌, true, sym, subst}
 use Rattle.fuse_values.specs.Answers.{answer_of}
-use Rattle.virtiofsd_fuse.specs.Serving.{setting, commanded}
+use Rattle.server_meanings.specs.Serving.{setting, commanded}
 use Rattle.server_phases.specs.Waiting.{first_call}
 use Rattle.server_phases.specs.Answering.{ReportsBytes, takes, leaves_options, served_by, forget_calls}
 use Rattle.server_phases.proofs.Suiting.{no_data, single_gives}

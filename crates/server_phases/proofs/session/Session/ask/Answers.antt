@@ -1,7 +1,7 @@
 use Rattle.std.proofs.Common.{refl, sym}
 use Rattle.fuse_in.specs.Records.{in_header}
 use Rattle.server_requests.proofs.PlaceLemmas.{record_front}
-use Rattle.virtiofsd_fuse.proofs.Rows.{meaning_head, meaning_fault}
+use Rattle.server_meanings.proofs.Rows.{meaning_head, meaning_fault}
 use Rattle.server_phases.proofs.Fronts.{data_behind}
 use Rattle.server_phases.proofs.Reporting.{has_asker, placed_by}
 use Rattle.server_phases.proofs.session.Session.ask.Goals as goal

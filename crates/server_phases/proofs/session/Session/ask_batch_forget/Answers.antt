@@ -1,6 +1,6 @@
 use Rattle.std.proofs.Common.{◌++◌, ◌+◌, ◌∙◌, List, ℕ, append_assoc, ap, drop, length, subst}
 use Rattle.std.proofs.lemmas.List.{length-append}
-use Rattle.virtiofsd_fuse.specs.Serving.{setting}
+use Rattle.server_meanings.specs.Serving.{setting}
 use Rattle.server_phases.specs.Asking.{DecodedStandsIn}
 use Rattle.server_phases.proofs.Reporting.{fault_reported}
 use Rattle.server_phases.proofs.session.Session.ask_batch_forget.Goals as goal

@@ -1,6 +1,6 @@
 use Rattle.std.proofs.Common.{Some, sym}
-use Rattle.virtiofsd_fuse.specs.Grammar.{given}
-use Rattle.virtiofsd_fuse.proofs.Rows.{meant_long, meant_none, meant_row}
+use Rattle.server_meanings.specs.Grammar.{given}
+use Rattle.server_meanings.proofs.Rows.{meant_long, meant_none, meant_row}
 use Rattle.server_phases.proofs.session.Session.ask_head.Goals as goal
 
 pub returns-then-head-gt-MAX_REQUEST_LEN-clause-reported : goal.returns-then-head-gt-MAX_REQUEST_LEN-clause-reported

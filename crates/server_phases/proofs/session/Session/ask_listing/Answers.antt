@@ -1,4 +1,4 @@
-use Rattle.virtiofsd_fuse.specs.Serving.{setting}
+use Rattle.server_meanings.specs.Serving.{setting}
 use Rattle.server_phases.proofs.Reporting.{fault_reported}
 use Rattle.server_phases.proofs.session.Session.ask_listing.Goals as goal
 

@@ -1,5 +1,5 @@
-use Rattle.virtiofsd_fuse.specs.Serving.{setting}
-use Rattle.virtiofsd_fuse.specs.Grammar.{given}
+use Rattle.server_meanings.specs.Serving.{setting}
+use Rattle.server_meanings.specs.Grammar.{given}
 use Rattle.server_phases.proofs.Reporting.{fault_reported, forgets_read, forgets_cut, whole_pairs}
 use Rattle.server_phases.proofs.session.Session.ask_pairs.Goals as goal
 

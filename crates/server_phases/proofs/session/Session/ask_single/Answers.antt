@@ -1,5 +1,5 @@
 use Rattle.std.proofs.Common.{◌++◌, refl}
-use Rattle.virtiofsd_fuse.specs.Serving.{setting}
+use Rattle.server_meanings.specs.Serving.{setting}
 use Rattle.server_phases.proofs.Reporting.{fault_reported, silence_reported}
 use Rattle.server_phases.proofs.session.Session.ask_single.Goals as goal
 

@@ -1,5 +1,5 @@
 use Rattle.std.proofs.Common.{refl}
-use Rattle.virtiofsd_fuse.proofs.Rows.{read_means}
+use Rattle.server_meanings.proofs.Rows.{read_means}
 use Rattle.virtiofsd_fuse.proofs.reads.ReadRequest.of_bytes.Goals as goal
 
 pub returns-in-Ok-read_record-clause-means : goal.returns-in-Ok-read_record-clause-means

@@ -1,6 +1,6 @@
 use Rattle.std.proofs.Common.{refl}
-use Rattle.virtiofsd_fuse.specs.Serving.{setting}
-use Rattle.virtiofsd_fuse.proofs.Serve.{handles_same, handles_refusal, handles_reply}
+use Rattle.server_meanings.specs.Serving.{setting}
+use Rattle.server_meanings.proofs.Serve.{handles_same, handles_refusal, handles_reply}
 use Rattle.virtiofsd_fuse.proofs.server.Server.batch_forget.Goals as goal
 
 pub forget_pairs-requires-clause-few : goal.forget_pairs-requires-clause-few

@@ -1,12 +1,12 @@
 use Rattle.std.proofs.Common.{refl}
 use Rattle.fuse_fs.specs.Answers.{pair_numbers}
 use Rattle.fuse_fs.specs.Calls.{Done}
-use Rattle.virtiofsd_fuse.specs.Grammar.{given}
+use Rattle.server_meanings.specs.Grammar.{given}
 use Rattle.server_calls.specs.Requests.{batch_forget_call}
-use Rattle.virtiofsd_fuse.specs.Serving.{setting}
-use Rattle.virtiofsd_fuse.proofs.Serve.{handles_one, handles_refusal}
-use Rattle.virtiofsd_fuse.proofs.Rows.{silent_reported}
-use Rattle.virtiofsd_fuse.proofs.ForgetLemmas.{forgets_ask, forgets_short}
+use Rattle.server_meanings.specs.Serving.{setting}
+use Rattle.server_meanings.proofs.Serve.{handles_one, handles_refusal}
+use Rattle.server_meanings.proofs.Rows.{silent_reported}
+use Rattle.server_meanings.proofs.ForgetLemmas.{forgets_ask, forgets_short}
 use Rattle.virtiofsd_fuse.proofs.server.Server.forget_pairs.Goals as goal
 
 pub returns-in-Ok-clause-handles : goal.returns-in-Ok-clause-handles

@@ -1,8 +1,8 @@
 use Rattle.std.proofs.Common.{refl}
-use Rattle.virtiofsd_fuse.specs.Serving.{setting}
-use Rattle.virtiofsd_fuse.proofs.Serve.{handles_fault, handles_fits}
-use Rattle.virtiofsd_fuse.proofs.Rows.{meaning_head, meaning_fault}
-use Rattle.virtiofsd_fuse.proofs.Left.{takes_none}
+use Rattle.server_meanings.specs.Serving.{setting}
+use Rattle.server_meanings.proofs.Serve.{handles_fault, handles_fits}
+use Rattle.server_meanings.proofs.Rows.{meaning_head, meaning_fault}
+use Rattle.server_meanings.proofs.Wanted.{takes_none}
 use Rattle.virtiofsd_fuse.proofs.server.Server.handle_message.Goals as goal
 
 pub returns-in-Ok-clause-handles : goal.returns-in-Ok-clause-handles

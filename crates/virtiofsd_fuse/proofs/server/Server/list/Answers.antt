@@ -1,11 +1,11 @@
 use Rattle.std.proofs.Common.{◌≡◌, ℕ, ◌-◌, Ok, length, refl, ap, arith, subst}
 use Rattle.fuse_base.specs.Options.{FsOptions}
-use Rattle.virtiofsd_fuse.specs.Listings.{listing_of}
-use Rattle.virtiofsd_fuse.specs.ListingRuns.{ListRun}
-use Rattle.virtiofsd_fuse.specs.Serving.{setting}
-use Rattle.virtiofsd_fuse.proofs.Serve.{handles_list, handles_unlisted}
+use Rattle.server_meanings.specs.Listings.{listing_of}
+use Rattle.server_meanings.specs.ListingRuns.{ListRun}
+use Rattle.server_meanings.specs.Serving.{setting}
+use Rattle.server_meanings.proofs.Serve.{handles_list, handles_unlisted}
 use Rattle.virtiofsd_fuse.proofs.ListingLemmas.{entries_fit, place_stays}
-use Rattle.virtiofsd_fuse.proofs.Rows.{listing_reported, listing_suits}
+use Rattle.server_meanings.proofs.Rows.{listing_reported, listing_suits}
 use Rattle.virtiofsd_fuse.proofs.server.Server.list.Goals as goal
 
 pub reply_listing-requires-clause-behind : goal.reply_listing-requires-clause-behind

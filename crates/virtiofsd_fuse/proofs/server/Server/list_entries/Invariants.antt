@@ -1,8 +1,8 @@
 -- What comes of the entries that are left comes of all.
 use Rattle.std.proofs.Common.{◌≡◌, ◌+◌, ℕ, List, Option, length}
 use Rattle.fuse_in.specs.declared.files.ReadIn.{ReadIn}
-use Rattle.virtiofsd_fuse.specs.Listings.{listing_of}
-use Rattle.virtiofsd_fuse.specs.ListingRuns.{ListRun}
+use Rattle.server_meanings.specs.Listings.{listing_of}
+use Rattle.server_meanings.specs.ListingRuns.{ListRun}
 use Rattle.virtiofsd_fuse.proofs.server.Server.list_entries.Given as goal
 
 abbrev pub invariant-loop-entry : goal.invariant-loop-entry

@@ -4,7 +4,7 @@ use Rattle.fuse_fs.specs.declared.answers.Entry.{Entry}
 use Rattle.fuse_fs.specs.Answers.{listed, context_of}
 use Rattle.fuse_fs.specs.Calls.{Done}
 use Rattle.server_replies.specs.Entries.{no_node}
-use Rattle.virtiofsd_fuse.specs.Listings.{forget_lookup, listing_of}
+use Rattle.server_meanings.specs.Listings.{forget_lookup, listing_of}
 use Rattle.virtiofsd_fuse.proofs.ListingLemmas.{nodeless_run, dot_run, placed_one, on_error, nothing_done, nothing_undone}
 use Rattle.virtiofsd_fuse.proofs.server.Server.list_entry.Goals as goal
 

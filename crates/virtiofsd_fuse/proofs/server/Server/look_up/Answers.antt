@@ -2,7 +2,7 @@ use Rattle.std.proofs.Common.{true, [], ◌∷◌, refl, ap, rules}
 use Rattle.server_segments.specs.ReaderAndWriterView.{WriterView}
 use Rattle.fuse_fs.specs.Answers.{listed, numbered, context_of}
 use Rattle.fuse_fs.specs.Calls.{Done}
-use Rattle.virtiofsd_fuse.specs.Listings.{forget_lookup, listing_of}
+use Rattle.server_meanings.specs.Listings.{forget_lookup, listing_of}
 use Rattle.virtiofsd_fuse.proofs.ListingLemmas.{found_run, unfound_run, placed_one, on_error}
 use Rattle.virtiofsd_fuse.proofs.server.Server.look_up.Goals as goal
 

@@ -1,5 +1,5 @@
 use Rattle.std.proofs.Common.{rules, refl}
-use Rattle.virtiofsd_fuse.proofs.Serve.{handles_one}
+use Rattle.server_meanings.proofs.Serve.{handles_one}
 use Rattle.virtiofsd_fuse.proofs.server.Server.perform_file.Goals as goal
 
 pub returns-in-Release-clause-handles : goal.returns-in-Release-clause-handles

@@ -1,6 +1,6 @@
 use Rattle.std.proofs.Common.{rules, refl, ap}
 use Rattle.fuse_base.specs.Options.{FsOptions}
-use Rattle.virtiofsd_fuse.proofs.Serve.{handles_entry}
+use Rattle.server_meanings.proofs.Serve.{handles_entry}
 use Rattle.virtiofsd_fuse.proofs.server.Server.perform_made.Goals as goal
 
 pub returns-in-Ok-clause-handles : goal.returns-in-Ok-clause-handles

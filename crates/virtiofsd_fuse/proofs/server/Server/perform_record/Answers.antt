@@ -1,8 +1,8 @@
 use Rattle.std.proofs.Common.{rules, refl}
-use Rattle.virtiofsd_fuse.specs.Serving.{setting}
-use Rattle.virtiofsd_fuse.proofs.Rows.{silent_reported}
+use Rattle.server_meanings.specs.Serving.{setting}
+use Rattle.server_meanings.proofs.Rows.{silent_reported}
 use Rattle.fuse_fs.specs.Calls.{Forget, Done}
-use Rattle.virtiofsd_fuse.proofs.Serve.{handles_one}
+use Rattle.server_meanings.proofs.Serve.{handles_one}
 use Rattle.virtiofsd_fuse.proofs.server.Server.perform_record.Goals as goal
 
 pub returns-in-Getattr-clause-handles : goal.returns-in-Getattr-clause-handles

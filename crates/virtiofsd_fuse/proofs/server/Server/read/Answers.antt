@@ -1,6 +1,6 @@
 use Rattle.std.proofs.Common.{refl}
-use Rattle.virtiofsd_fuse.specs.Serving.{setting}
-use Rattle.virtiofsd_fuse.proofs.Serve.{handles_same, handles_refusal}
+use Rattle.server_meanings.specs.Serving.{setting}
+use Rattle.server_meanings.proofs.Serve.{handles_same, handles_refusal}
 use Rattle.virtiofsd_fuse.proofs.server.Server.read.Goals as goal
 
 pub read_data-requires-clause-enough : goal.read_data-requires-clause-enough

@@ -1,9 +1,9 @@
 use Rattle.std.proofs.Common.{◌≡◌, Ok, ◌+◌, ◌-◌, ◌≤◌, length, refl, sym, ◌∙◌, arith}
 use Rattle.fuse_fs.specs.Answers.{data_answer}
 use Rattle.server_calls.specs.Requests.{read_call}
-use Rattle.virtiofsd_fuse.specs.Serving.{setting}
-use Rattle.virtiofsd_fuse.proofs.Serve.{handles_one}
-use Rattle.virtiofsd_fuse.proofs.Rows.{read_suits, read_reported}
+use Rattle.server_meanings.specs.Serving.{setting}
+use Rattle.server_meanings.proofs.Serve.{handles_one}
+use Rattle.server_meanings.proofs.Rows.{read_suits, read_reported}
 use Rattle.virtiofsd_fuse.proofs.server.Server.read_data.Goals as goal
 
 pub returns-clause-handles : goal.returns-clause-handles

@@ -1,8 +1,8 @@
 use Rattle.std.proofs.Common.{Some, sym}
-use Rattle.virtiofsd_fuse.specs.Grammar.{given}
-use Rattle.virtiofsd_fuse.specs.Serving.{setting}
-use Rattle.virtiofsd_fuse.proofs.Serve.{handles_reply}
-use Rattle.virtiofsd_fuse.proofs.Rows.{meant_long, meant_none, meant_row}
+use Rattle.server_meanings.specs.Grammar.{given}
+use Rattle.server_meanings.specs.Serving.{setting}
+use Rattle.server_meanings.proofs.Serve.{handles_reply}
+use Rattle.server_meanings.proofs.Rows.{meant_long, meant_none, meant_row}
 use Rattle.virtiofsd_fuse.proofs.server.Server.serve.Goals as goal
 
 pub returns-then-head-gt-MAX_REQUEST_LEN-clause-handles : goal.returns-then-head-gt-MAX_REQUEST_LEN-clause-handles

@@ -1,6 +1,6 @@
 use Rattle.std.proofs.Common.{refl}
-use Rattle.virtiofsd_fuse.specs.Serving.{setting}
-use Rattle.virtiofsd_fuse.proofs.Serve.{handles_asked, handles_refusal, handles_reply, handles_silence}
+use Rattle.server_meanings.specs.Serving.{setting}
+use Rattle.server_meanings.proofs.Serve.{handles_asked, handles_refusal, handles_reply, handles_silence}
 use Rattle.virtiofsd_fuse.proofs.server.Server.serve_single.Goals as goal
 
 pub perform-requires-clause-plain : goal.perform-requires-clause-plain

@@ -1,10 +1,10 @@
 use Rattle.std.proofs.Common.{refl}
 use Rattle.fuse_fs.specs.Answers.{written_answer}
-use Rattle.virtiofsd_fuse.specs.Grammar.{given}
+use Rattle.server_meanings.specs.Grammar.{given}
 use Rattle.server_calls.specs.Requests.{write_call}
-use Rattle.virtiofsd_fuse.specs.Serving.{setting}
-use Rattle.virtiofsd_fuse.proofs.Serve.{handles_one, handles_refusal}
-use Rattle.virtiofsd_fuse.proofs.Rows.{write_asks, write_short, write_suits}
+use Rattle.server_meanings.specs.Serving.{setting}
+use Rattle.server_meanings.proofs.Serve.{handles_one, handles_refusal}
+use Rattle.server_meanings.proofs.Rows.{write_asks, write_short, write_suits}
 use Rattle.virtiofsd_fuse.proofs.server.Server.write.Goals as goal
 
 pub returns-in-Ok-clause-handles : goal.returns-in-Ok-clause-handles

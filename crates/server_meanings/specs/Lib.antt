@@ -1,0 +1,9 @@
+pub mod DataApart
+pub mod Examples
+pub mod ExamplesOfMemory
+pub mod Grammar
+pub mod ListingRuns
+pub mod Listings
+pub mod RowMeanings
+pub mod Serving
+pub mod WantOfMemory
