@@ -14,6 +14,7 @@
 #include <sys/socket.h>
 #include <sys/un.h>
 #include <sys/wait.h>
+#include <time.h>
 #include <unistd.h>
 
 enum {
@@ -340,6 +341,12 @@ static bool wants_kick(struct front *front, size_t ring) {
     return is_passed(avail_event, told, r->offered);
 }
 
+double front_now(void) {
+    struct timespec now;
+    clock_gettime(CLOCK_MONOTONIC, &now);
+    return (double)now.tv_sec * 1e9 + (double)now.tv_nsec;
+}
+
 void front_kick(struct front *front, size_t ring) {
     uint64_t one = 1;
     atomic_thread_fence(memory_order_seq_cst);
@@ -367,13 +374,22 @@ static void want_call(struct front *front, size_t ring, bool wanted) {
     if (wanted) atomic_thread_fence(memory_order_seq_cst);
 }
 
+/* Whether all that was offered comes back while the driver looks for it. */
+static bool comes_soon(struct front *front, size_t ring) {
+    double end = front_now() + front->looks * 1e3;
+    do {
+        if (is_back(front, ring)) return true;
+    } while (front->looks && front_now() < end);
+    return false;
+}
+
 bool front_wait(struct front *front, size_t ring, int milliseconds) {
     struct front_ring *r = &front->rings[ring];
     struct pollfd event = {r->call, POLLIN, 0};
     uint64_t word;
     for (;;) {
         want_call(front, ring, false);
-        if (is_back(front, ring)) return true;
+        if (comes_soon(front, ring)) return true;
         uint16_t seen = r->seen;
         want_call(front, ring, true);
         if (is_back(front, ring)) return true;

@@ -34,6 +34,8 @@ struct front {
     uint8_t *memory;
     uint64_t features;
     bool has_event_index; /* EVENT_INDEX of the environment is 1: VIRTIO_F_EVENT_IDX is taken */
+    /* For so many microseconds the driver looks before it sleeps, as a vCPU under KVM does. */
+    unsigned looks;
     /* Behind an IOMMU, the driver's addresses are the guest's and so much. */
     bool has_iommu;
     uint64_t shift;
@@ -90,6 +92,9 @@ _Atomic uint16_t *index_at(const struct front *front, uint64_t guest);
 void put_descriptor(const struct front *front, uint64_t table, unsigned k, uint64_t addr,
                     uint32_t len, unsigned flags, unsigned next);
 void front_offer(struct front *front, size_t ring, uint16_t head);
+
+/* The nanoseconds of a clock that nobody sets. */
+double front_now(void);
 
 /* Kicks, unless the device says that it looks anyway (VIRTIO 1.2, 2.7.10). */
 void front_kick(struct front *front, size_t ring);

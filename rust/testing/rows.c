@@ -1,10 +1,12 @@
-/* What a request costs by a daemon, without a guest: rows DAEMON DIR COUNT [ROW AT_ONCE], of all
- * rows, or of one (from 0 on), one at a time (1) or several at once (0). Requests as a Linux guest
- * cuts them: header, arguments, data, the reply's header and its data in pieces of their own, which
- * a table of the request's own names. Prints for each kind the least of five runs of COUNT
- * requests, in nanoseconds for a request: with the driver's kicks and sleeps. And of all five what
- * the daemon took of the processor for a request, and how often for a thousand of them one side
- * told the other. DIR gets a file `rows`. */
+/* What a request costs by a daemon, without a guest: rows DAEMON DIR COUNT [ROW AT_ONCE [BETWEEN]],
+ * of all rows, or of one (from 0 on), one at a time (1) or several at once (0), with so many
+ * microseconds between (0). Requests as a Linux guest cuts them: header, arguments, data, the
+ * reply's header and its data in pieces of their own, which a table of the request's own names.
+ * Prints for each kind the least of five runs of COUNT requests, in nanoseconds for a request: with
+ * the driver's kicks and sleeps, without the time between requests. And of all five what the daemon
+ * took of the processor for a request, and how often for a thousand of them one side told the
+ * other. DIR gets a file `rows`. */
+#define _POSIX_C_SOURCE 200809L
 #include "front.h"
 #include <fcntl.h>
 #include <linux/fuse.h>
@@ -22,7 +24,10 @@ enum {
     MIDDLE = 1 << 16,
     SLOT = 0x2000,
     TOO_LONG = 60000,
-    UNKNOWN = 0x7777
+    UNKNOWN = 0x7777,
+    READ = 3, /* of the rows: 4 KiB */
+    LONG = 100, /* microseconds: the driver sleeps */
+    SHARE = 10 /* and of these a row takes a part more of its time, and asks so much less */
 };
 
 /* A kind of request: how many bytes go one way or the other, and how many are asked at once. */
@@ -93,20 +98,29 @@ static bool is_answered(const struct row *row, unsigned k) {
     return out.error == 0 && out.unique == k + 1 && out.len == sizeof out + behind;
 }
 
+/* The driver has other work for so many microseconds, or sleeps, if that is long. */
+static void do_other_work(unsigned microseconds) {
+    double end = front_now() + microseconds * 1e3;
+    struct timespec time = {microseconds / 1000000, microseconds % 1000000 * 1000};
+    if (microseconds >= LONG) nanosleep(&time, NULL);
+    while (front_now() < end) {
+    }
+}
+
 /* Nanoseconds for a request, of `turns` times `at_once`. */
-static double measure(const struct row *row, unsigned turns, unsigned at_once) {
-    struct timespec from, to;
-    clock_gettime(CLOCK_MONOTONIC, &from);
+static double measure(const struct row *row, unsigned turns, unsigned at_once, unsigned between) {
+    double time = 0;
     for (unsigned turn = 0; turn < turns; turn++) {
+        do_other_work(between);
+        double from = front_now();
         for (unsigned k = 0; k < at_once; k++) front_offer(&front, RING, (uint16_t)k);
         front_kick(&front, RING);
         if (!front_wait(&front, RING, TOO_LONG)) die("%s isn't answered", row->name);
+        time += front_now() - from;
     }
-    clock_gettime(CLOCK_MONOTONIC, &to);
     for (unsigned k = 0; k < at_once; k++)
         if (!is_answered(row, k)) die("%s is answered otherwise", row->name);
-    return ((double)(to.tv_sec - from.tv_sec) * 1e9 + (double)(to.tv_nsec - from.tv_nsec)) / turns /
-           at_once;
+    return time / turns / at_once;
 }
 
 /* How often the device was told, and told, with what the driver didn't wait for. */
@@ -117,25 +131,39 @@ static struct front_ring counted(void) {
     return ring;
 }
 
-static void print_row(const struct row *row, unsigned count, unsigned at_once) {
-    unsigned turns = (row->data >= MIDDLE ? count / 16 : count) / at_once;
+/* How a row is asked: so many requests at once, microseconds between, and for how many microseconds
+ * the driver looks before it sleeps. */
+struct way {
+    unsigned at_once, between, looks;
+};
+
+/* Prints a number of a row, and what it is of. */
+static void print(const char *word, double number, const char *unit, const struct row *row,
+                  struct way way) {
+    printf("%s %.0f %s: %s, %u at once", word, number, unit, row->name, way.at_once);
+    if (way.between) printf(", %u us between", way.between);
+    printf(way.looks ? ", the driver looks for %u us\n" : "\n", way.looks);
+}
+
+static void print_row(const struct row *row, unsigned count, struct way way) {
+    unsigned turns = (row->data >= MIDDLE ? count / 16 : count) / way.at_once;
     double least = 0, processor = front_processor(&front);
     struct front_ring before = counted();
     if (turns == 0) turns = 1;
-    for (unsigned k = 0; k < at_once; k++) draw(row, k);
+    front.looks = way.looks;
+    for (unsigned k = 0; k < way.at_once; k++) draw(row, k);
     for (int run = 0; run < RUNS; run++) {
-        double next = measure(row, turns, at_once);
+        double next = measure(row, turns, way.at_once, way.between);
         if (run == 0 || next < least) least = next;
     }
     struct front_ring after = counted();
-    double requests = (double)RUNS * turns * at_once;
+    double requests = (double)RUNS * turns * way.at_once;
     processor = front_processor(&front) - processor;
-    printf("ROW %.0f ns: %s, %u at once\n", least, row->name, at_once);
-    printf("PROCESSOR %.0f ns: %s, %u at once\n", processor * 1e6 / requests, row->name, at_once);
-    printf("KICKS %.0f of 1000: %s, %u at once\n",
-           (double)(after.kicks - before.kicks) * 1e3 / requests, row->name, at_once);
-    printf("CALLS %.0f of 1000: %s, %u at once\n",
-           (double)(after.calls - before.calls) * 1e3 / requests, row->name, at_once);
+    front.looks = 0;
+    print("ROW", least, "ns", row, way);
+    print("PROCESSOR", processor * 1e6 / requests, "ns", row, way);
+    print("KICKS", (double)(after.kicks - before.kicks) * 1e3 / requests, "of 1000", row, way);
+    print("CALLS", (double)(after.calls - before.calls) * 1e3 / requests, "of 1000", row, way);
 }
 
 /* A file of which READ has enough, and whose pages the host has. */
@@ -148,9 +176,19 @@ static void make_file(const char *dir) {
         die("%s isn't made", path);
 }
 
+/* READ of 4 KiB, with time between requests, in which the guest does other work or sleeps. */
+static void print_between(unsigned count) {
+    static const struct way ways[] = {{1, 20, 0}, {1, 50, 0}, {1, 300, 0}, {1, 1000, 0},
+                                      {1, 20, 200}};
+    for (size_t k = 0; k < sizeof ways / sizeof *ways; k++)
+        print_row(&rows[READ], count / (1 + ways[k].between / SHARE), ways[k]);
+}
+
 int main(int argc, char **argv) {
-    if (argc != 4 && argc != 6) die("usage: rows DAEMON DIR COUNT [ROW AT_ONCE]");
+    if (argc != 4 && argc != 6 && argc != 7)
+        die("usage: rows DAEMON DIR COUNT [ROW AT_ONCE [BETWEEN]]");
     unsigned count = (unsigned)strtoul(argv[3], NULL, 10);
+    unsigned between = argc == 7 ? (unsigned)strtoul(argv[6], NULL, 10) : 0;
     make_file(argv[2]);
     front_begin(&front, argv[1], argv[2], NULL);
     front_set_up(&front);
@@ -159,11 +197,12 @@ int main(int argc, char **argv) {
     node = look_up(&front, ROOT, "rows");
     file = open_node(&front, node, O_RDWR);
     for (size_t k = 0; k < sizeof rows / sizeof *rows; k++) {
-        if (argc == 6 && strtoul(argv[4], NULL, 10) != k) continue;
-        for (unsigned several = 0; several < 2; several++)
-            if (argc == 4 || (argv[5][0] == '1') != several)
-                print_row(&rows[k], count, several ? rows[k].most_at_once : 1);
+        if (argc > 4 && strtoul(argv[4], NULL, 10) != k) continue;
+        struct way one = {1, between, 0}, several = {rows[k].most_at_once, between, 0};
+        if (argc == 4 || argv[5][0] == '1') print_row(&rows[k], count, one);
+        if (argc == 4 || argv[5][0] != '1') print_row(&rows[k], count, several);
     }
+    if (argc == 4) print_between(count);
     front_leave(&front);
     return 0;
 }

@@ -340,13 +340,21 @@ impl<F: ServedFs> QueueWorker<F> {
         }
     }
 
+    /// Sets the worker's memory, if it is another. Each pop begins with this.
+    #[inline]
     fn work_over(&mut self, memory: &Table) -> Result<(), Status> {
-        let told = Some((memory.number(), memory.iommu().is_on()));
-        if self.told != told {
-            self.told = None; // if this is refused, the next call sets the regions again
-            self.worker.set_memory(&self.core.device, &memory.regions())?;
-            self.told = told;
+        let told = (memory.number(), memory.iommu().is_on());
+        match self.told {
+            Some(before) if before == told => Ok(()),
+            _ => self.tell(memory, told),
         }
+    }
+
+    #[cold]
+    fn tell(&mut self, memory: &Table, told: (u64, bool)) -> Result<(), Status> {
+        self.told = None; // if this is refused, the next call sets the regions again
+        self.worker.set_memory(&self.core.device, &memory.regions())?;
+        self.told = Some(told);
         Ok(())
     }
 
@@ -465,6 +473,12 @@ impl<F: ServedFs> Server for QueueWorker<F> {
             return self.set_notification_translated(queue, wanted, memory);
         }
         self.worker.set_notification(queue, wanted, &**memory)
+    }
+
+    fn available_index(&mut self, queue: &Queue, memory: &Table) -> Option<u16> {
+        let is_told = self.told == Some((memory.number(), false));
+        let index = is_told.then(|| self.worker.available_index(queue, memory)).flatten();
+        index.or_else(|| memory.ring_index(queue.layout().available))
     }
 }
 

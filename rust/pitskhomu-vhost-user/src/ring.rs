@@ -211,6 +211,11 @@ pub trait Server {
         wanted: bool,
         memory: &Arc<Table>,
     ) -> Result<bool, Status>;
+
+    /// The index of the available ring, if it is mapped.
+    fn available_index(&mut self, queue: &Queue, memory: &Table) -> Option<u16> {
+        memory.ring_index(queue.layout().available)
+    }
 }
 
 /// A queue, shared by its threads and the front-end's.

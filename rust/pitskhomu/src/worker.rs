@@ -352,9 +352,13 @@ impl Worker {
             return Err(Status::WrongOrder);
         }
         grow(&mut self.request, sys::FIRST)?;
+        let index = if is_lent { None } else { self.first_load(queue, memory)? };
+        if self.is_idle(queue, index) {
+            return Ok(Popped::Idle);
+        }
         self.forget_last();
         let popping = Popping(self);
-        match popping.0.pop_steps(queue, memory, is_lent)? {
+        match popping.0.pop_steps(queue, memory, is_lent, index)? {
             PopStep::InFlight if is_lent => popping.0.keep_windows(queue)?,
             PopStep::InFlight => {}
             PopStep::Missed if is_lent => {
@@ -407,11 +411,12 @@ impl Worker {
         queue: &mut Queue,
         memory: &dyn GuestMemory,
         is_lent: bool,
+        index: Option<u16>,
     ) -> Result<PopStep, Status> {
         self.pop = sys::PopResult::default();
         let mut is_first = true;
         if !is_lent {
-            match self.pop_ahead(queue, memory)? {
+            match self.pop_ahead(queue, memory, index)? {
                 PopStep::Load => self.load_first(queue, memory)?,
                 ended => return Ok(ended),
             }

@@ -102,7 +102,11 @@ impl<S: Server> live::Server<State> for Thread<'_, S> {
     }
 
     fn available_index(&mut self, state: &State) -> Option<u16> {
-        self.table.as_ref()?.ring_index(state.numbers.layout.available)
+        let table = self.table.as_ref()?;
+        if state.is_new {
+            return table.ring_index(state.numbers.layout.available);
+        }
+        self.server.available_index(&state.queue, table)
     }
 
     fn ask(&mut self) -> Asked {

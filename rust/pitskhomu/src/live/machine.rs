@@ -4,94 +4,70 @@
 #![allow(unsafe_code)]
 
 use crate::sys;
+use crate::sys::turns;
 
-/// What happened.
+/// What a thread does next: an action of `sys::turns`, and what else it does once it has released
+/// the lock.
 #[derive(Clone, Copy, Debug, PartialEq, Eq)]
-pub(super) enum Event {
-    /// The thread slept, woke for any reason, and has the lock. `answers_wait`: a chain that waited
-    /// may have its answer.
-    Woken { answers_wait: bool },
-    /// The thread didn't sleep, and has the lock. `notify`: it has pushed a chain, and may owe the
-    /// driver an interrupt.
-    Back { notify: bool, answers_wait: bool },
-    /// It took up a chain that waited. `another`: another one may have its answer, too.
-    Resumed { another: bool },
-    /// There was none.
-    NoneResumed,
-    /// It popped a chain.
-    Popped,
-    /// No chain is available: the index that was loaded for this is the next position. `polls`: it
-    /// looks again soon.
-    Idle { polls: bool },
-    /// As many chains are in flight as may be.
-    Full,
-    /// No chain is popped for now. What lets it go on wakes a thread.
-    Paused,
-    /// The thread tries again later.
-    Later,
-    /// The thread ends.
-    Refused,
-    /// Notifications are enabled: the store was made, and then a full barrier.
-    Armed,
-    /// They can't be enabled.
-    NotArmed,
-    /// A chain is available.
-    More,
-    /// None is.
-    NoMore,
-    /// Notifications are disabled.
-    Muted,
-}
+pub(super) struct Orders(u32);
 
-/// What the thread does next. It keeps the lock for the first five.
-#[derive(Clone, Copy, Debug, PartialEq, Eq)]
-pub(super) enum Action {
-    Resume,
-    Pop,
-    Arm,
-    Look,
-    Mute,
-    Answer,
-    Sleep,
-    StepAside,
-    Stop,
-    /// The event can't happen now.
-    Wrong,
-}
-
-impl Action {
-    /// Whether the thread has no chain, and releases the lock.
-    pub const fn is_rest(self) -> bool {
-        matches!(self, Action::Sleep | Action::StepAside | Action::Stop | Action::Wrong)
+impl Orders {
+    /// The action.
+    pub const fn action(self) -> u32 {
+        self.0 & turns::DO
     }
-}
 
-/// An action, and what else the thread does once it has released the lock.
-#[derive(Clone, Copy, Debug, PartialEq, Eq)]
-pub(super) struct Orders {
-    pub action: Action,
-    /// It wakes a thread.
-    pub wakes: bool,
-    /// It interrupts the driver.
-    pub interrupts: bool,
-}
+    /// Whether the thread keeps the lock for the action.
+    pub const fn keep_the_lock(self) -> bool {
+        turns::DO_RESUME <= self.action() && self.action() <= turns::DO_MUTE
+    }
 
-/// What the thread sees beside the event.
-#[derive(Clone, Copy, Debug, Default)]
-pub(super) struct Seen {
-    /// The position of the next chain.
-    pub next_avail: u16,
-    /// As many chains are in flight as may be.
-    pub is_full: bool,
-    /// Another thread waits for the lock, and will report `Back`.
-    pub another_comes: bool,
+    /// Whether the thread wakes one that sleeps.
+    pub const fn wakes(self) -> bool {
+        self.0 & turns::WAKE_ONE != 0
+    }
+
+    /// Whether it interrupts the driver.
+    pub const fn interrupts(self) -> bool {
+        self.0 & turns::INTERRUPT != 0
+    }
 }
 
 /// The turns of a queue's threads.
 #[derive(Clone, Copy, Debug)]
 pub(super) struct Turns(sys::Turns);
 
+/// Functions for the events of the header, with its names, of `bool` and `u16`.
+macro_rules! events {
+    ($($name:ident = $export:ident($($of:ident: $kind:ty),*);)*) => {
+        $(
+            pub fn $name(&mut self, $($of: $kind),*) -> Orders {
+                // SAFETY: the struct is valid for the call, which keeps no pointer.
+                Orders(unsafe { sys::$export(&mut self.0, $($of.into()),*) })
+            }
+        )*
+    };
+}
+
 impl Turns {
+    events! {
+        woken = pk_turn_woken(answers_wait: bool);
+        back = pk_turn_back(notify: bool, answers_wait: bool);
+        resumed = pk_turn_resumed(another: bool, next: u16, is_full: bool, another_comes: bool);
+        none_resumed = pk_turn_none_resumed();
+        popped = pk_turn_popped(next: u16, is_full: bool, another_comes: bool);
+        idle = pk_turn_idle(polls: bool, next: u16);
+        full = pk_turn_full();
+        paused = pk_turn_paused();
+        later = pk_turn_later();
+        refused = pk_turn_refused();
+        armed = pk_turn_armed(next: u16);
+        not_armed = pk_turn_not_armed();
+        more = pk_turn_more();
+        no_more = pk_turn_no_more();
+        muted = pk_turn_muted();
+    }
+
     /// A queue that no thread serves yet.
     pub fn new(event_index: bool) -> Turns {
         let mut turns = sys::Turns::default();
@@ -108,19 +84,20 @@ impl Turns {
         debug_assert!(is_reset != 0, "a thread has another action");
     }
 
-    /// A panic has ended the thread that was amid its turn. Others came, and sleep until the queue
-    /// goes on.
+    /// A panic has ended the thread that was amid its turn: what it was to do has failed, and it
+    /// ends. Wake a thread then. An event that doesn't suit what it was to do changes nothing.
     pub fn end_turn(&mut self) {
-        let sleeping = self.sleeping();
-        *self = Turns::new(self.has_event_index());
-        self.add_sleeping(sleeping);
+        for fails in [Turns::refused, Turns::not_armed, Turns::more, Turns::muted] {
+            fails(self);
+        }
     }
 
     /// So many threads come, and sleep until something wakes them.
+    #[cfg(test)]
     pub fn add_sleeping(&mut self, threads: u64) {
         for _ in 0..threads {
-            self.next(Event::Back { notify: false, answers_wait: false }, Seen::default());
-            self.next(Event::Paused, Seen::default());
+            self.back(false, false);
+            self.paused();
         }
     }
 
@@ -131,6 +108,7 @@ impl Turns {
     }
 
     /// The number of threads that sleep, or woke and don't have the lock yet.
+    #[cfg(test)]
     pub const fn sleeping(&self) -> u64 {
         self.0.sleeping
     }
@@ -143,57 +121,5 @@ impl Turns {
     /// Whether no thread is amid its turn.
     pub const fn is_free(&self) -> bool {
         self.0.phase == 0
-    }
-
-    /// What the thread that has the lock does next.
-    pub fn next(&mut self, event: Event, seen: Seen) -> Orders {
-        let Seen { next_avail, is_full, another_comes } = seen;
-        let (full, comes) = (is_full.into(), another_comes.into());
-        let turns = &mut self.0;
-        // SAFETY: the struct is valid for the call, which keeps no pointer.
-        let orders = unsafe {
-            match event {
-                Event::Woken { answers_wait } => sys::pk_turn_woken(turns, answers_wait.into()),
-                Event::Back { notify, answers_wait } => {
-                    sys::pk_turn_back(turns, notify.into(), answers_wait.into())
-                }
-                Event::Resumed { another } => {
-                    sys::pk_turn_resumed(turns, another.into(), next_avail, full, comes)
-                }
-                Event::NoneResumed => sys::pk_turn_none_resumed(turns),
-                Event::Popped => sys::pk_turn_popped(turns, next_avail, full, comes),
-                Event::Idle { polls } => sys::pk_turn_idle(turns, polls.into(), next_avail),
-                Event::Full => sys::pk_turn_full(turns),
-                Event::Paused => sys::pk_turn_paused(turns),
-                Event::Later => sys::pk_turn_later(turns),
-                Event::Refused => sys::pk_turn_refused(turns),
-                Event::Armed => sys::pk_turn_armed(turns, next_avail),
-                Event::NotArmed => sys::pk_turn_not_armed(turns),
-                Event::More => sys::pk_turn_more(turns),
-                Event::NoMore => sys::pk_turn_no_more(turns),
-                Event::Muted => sys::pk_turn_muted(turns),
-            }
-        };
-        Orders::of(orders)
-    }
-}
-
-impl Orders {
-    const fn of(orders: u32) -> Orders {
-        let action = match orders & sys::turns::DO {
-            sys::turns::DO_RESUME => Action::Resume,
-            sys::turns::DO_POP => Action::Pop,
-            sys::turns::DO_ARM => Action::Arm,
-            sys::turns::DO_LOOK => Action::Look,
-            sys::turns::DO_MUTE => Action::Mute,
-            sys::turns::DO_ANSWER => Action::Answer,
-            sys::turns::DO_SLEEP => Action::Sleep,
-            sys::turns::DO_STEP_ASIDE => Action::StepAside,
-            sys::turns::DO_STOP => Action::Stop,
-            _ => Action::Wrong,
-        };
-        let (wakes, interrupts) =
-            (orders & sys::turns::WAKE_ONE != 0, orders & sys::turns::INTERRUPT != 0);
-        Orders { action, wakes, interrupts }
     }
 }

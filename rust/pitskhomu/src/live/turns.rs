@@ -3,9 +3,12 @@
 //! barriers. What a thread may report, and what follows from it, is proved over the model of
 //! several threads (crates `notify` and `fs_turns`).
 use super::loops::{Asked, Held, Locked, Loop, Polled, Queued, Server};
-use super::machine::{Action, Event, Orders, Seen};
+use super::machine::{Orders, Turns};
 use super::polling::Look;
 use crate::status::Status;
+use crate::sys::turns::{
+    DO_ANSWER, DO_ARM, DO_LOOK, DO_MUTE, DO_POP, DO_SLEEP, DO_STEP_ASIDE, DO_STOP,
+};
 use crate::worker::Popped;
 use core::hint;
 use std::io;
@@ -19,16 +22,8 @@ const MOST_ROUNDS: u32 = 64;
 /// A thread that looks for chains leaves the lock for so many pauses.
 const PAUSES: u32 = 2;
 
-/// How a thread came to the lock.
-#[derive(Debug, Clone, Copy, PartialEq, Eq)]
-enum Came {
-    /// It slept.
-    Woken,
-    /// It didn't.
-    Back,
-    /// It has pushed a chain.
-    Pushed,
-}
+/// A thread that has the lock, and what it does next.
+type Turn<'l, Q> = (Held<'l, Q>, Orders);
 
 impl<Q: Queued> Locked<Q> {
     /// Tells the machine of a queue that has begun again: nothing is stored about its
@@ -61,18 +56,9 @@ impl<Q: Queued> Locked<Q> {
         !self.has_room() || queue.in_flight() >= queue.max_in_flight()
     }
 
-    fn begin_turn(&mut self, came: Came, answers_wait: bool) -> Orders {
-        let event = match came {
-            Came::Woken => Event::Woken { answers_wait },
-            came => Event::Back { notify: came == Came::Pushed, answers_wait },
-        };
-        self.turns.next(event, Seen::default())
-    }
-
-    fn next(&mut self, event: Event, another_comes: bool) -> Orders {
-        let next_avail = self.next_chain().1;
-        let seen = Seen { next_avail, is_full: !self.has_room(), another_comes };
-        self.turns.next(event, seen)
+    /// The position of the next chain.
+    fn next_position(&self) -> u16 {
+        self.next_chain().1
     }
 }
 
@@ -113,120 +99,140 @@ impl<'l, 's, Q: Queued, S: Server<Q>> Thread<'l, 's, Q, S> {
 
     /// Takes turns until the thread ends.
     pub fn run(mut self) -> io::Result<()> {
-        let (mut state, mut came) = (self.looping.lock(), Came::Back);
+        let mut turn = self.come(self.looping.lock(), false);
         loop {
-            (state, came) = match self.take_turn(state, came) {
-                Action::Answer => self.answer(),
-                Action::Sleep => (self.sleep(), Came::Woken),
-                Action::StepAside => (self.step_aside(), Came::Back),
-                _ if self.must_undo => (self.undo(), Came::Back),
+            turn = match self.take_turn(turn) {
+                DO_ANSWER => self.answer(),
+                DO_SLEEP => self.sleep(),
+                DO_STEP_ASIDE => self.step_aside(),
+                _ if self.must_undo => self.undo(),
                 _ => return self.ended.unwrap_or(Ok(())),
             };
         }
     }
 
-    /// A turn, under the lock. Returns what the thread does without it.
-    fn take_turn(&mut self, mut state: Held<'l, Q>, came: Came) -> Action {
-        let mut wakes = state.begin_again();
-        let answers_wait = self.server.has_answered(&state);
-        let mut orders = state.begin_turn(came, answers_wait);
-        let mut interrupts = orders.interrupts;
-        loop {
-            if interrupts && orders.action.is_rest() {
-                // Before anybody who waits gets the lock: a queue that has stopped owes nothing.
-                self.server.interrupt();
-                interrupts = false;
-            }
-            let event = match self.perform(&mut state, orders.action) {
-                Some(event) => event,
-                None => break,
-            };
-            orders = state.next(event, self.looping.another_comes());
-            (wakes, interrupts) = (wakes | orders.wakes, interrupts | orders.interrupts);
-        }
-        if orders.action.is_rest() {
-            self.looping.notify_if_awaited(&state);
-        }
-        drop(state);
-        if interrupts {
-            self.server.interrupt();
-        }
-        if wakes {
+    /// The thread has the lock, and didn't sleep. `has_pushed`: it may owe the driver an interrupt.
+    fn come(&mut self, state: Held<'l, Q>, has_pushed: bool) -> Turn<'l, Q> {
+        self.begin(state, |turns, answers_wait| turns.back(has_pushed, answers_wait))
+    }
+
+    /// Begins a turn by an event, which says whether a chain may wait that has its answer.
+    fn begin(
+        &mut self,
+        mut state: Held<'l, Q>,
+        event: impl FnOnce(&mut Turns, bool) -> Orders,
+    ) -> Turn<'l, Q> {
+        if state.begin_again() {
             self.looping.look();
         }
-        orders.action
+        let answers_wait = self.server.has_answered(&state);
+        let mut orders = event(&mut state.turns, answers_wait);
+        if self.must_undo || self.ended.is_some() {
+            orders = state.turns.refused(); // it takes no chain now: another thread does
+        }
+        (state, orders)
     }
 
-    /// Whether the thread takes no chain now: it ends, or has to undo an answer first.
-    fn leaves(&self) -> bool {
-        self.must_undo || self.ended.is_some()
-    }
-
-    /// Does what the machine says under the lock. Returns what happened; `None` if the lock is to
-    /// be released.
-    fn perform(&mut self, state: &mut Locked<Q>, action: Action) -> Option<Event> {
-        match action {
-            Action::Resume => Some(self.resume(state)),
-            Action::Pop => Some(self.pop(state)),
-            Action::Arm => Some(self.arm(state)),
-            Action::Look => Some(self.look(state)),
-            Action::Mute => Some(self.mute(state)),
-            Action::Sleep if self.server.rests(state) => {
-                self.ended = Some(Ok(())); // it doesn't sleep, but ends
-                Some(Event::Woken { answers_wait: self.server.has_answered(state) })
+    /// A turn, under the lock. Returns what the thread does without it.
+    fn take_turn(&mut self, turn: Turn<'l, Q>) -> u32 {
+        let (mut state, mut orders) = turn;
+        while orders.keep_the_lock() {
+            orders = self.perform(&mut state, orders.action());
+        }
+        if orders.action() == DO_ANSWER {
+            drop(state);
+            if orders.interrupts() {
+                self.server.interrupt();
             }
-            Action::Wrong => {
+        } else {
+            orders = self.rest(&mut state, orders);
+            self.looping.notify_if_awaited(&state);
+            drop(state);
+        }
+        if orders.wakes() {
+            self.looping.look();
+        }
+        orders.action()
+    }
+
+    /// Does what the machine says under the lock. Returns what it says then.
+    fn perform(&mut self, state: &mut Locked<Q>, action: u32) -> Orders {
+        match action {
+            DO_POP => self.pop(state),
+            DO_ARM => self.arm(state),
+            DO_LOOK if self.sees_more(state) => state.turns.more(),
+            DO_LOOK => state.turns.no_more(),
+            DO_MUTE => self.mute(state),
+            _ => self.resume(state),
+        }
+    }
+
+    /// The thread has no chain, and releases the lock. It may end in place of its sleep.
+    fn rest(&mut self, state: &mut Locked<Q>, orders: Orders) -> Orders {
+        if orders.interrupts() {
+            // Before anybody who waits gets the lock: a queue that has stopped owes nothing.
+            self.server.interrupt();
+        }
+        match orders.action() {
+            DO_SLEEP if self.server.rests(state) => {
+                self.ended = Some(Ok(()));
+                let answers_wait = self.server.has_answered(state);
+                state.turns.woken(answers_wait);
+                state.turns.refused()
+            }
+            DO_SLEEP | DO_STEP_ASIDE | DO_STOP => orders,
+            _ => {
                 debug_assert!(false, "an event that can't happen");
                 self.server.refuse(state, Status::WrongOrder);
                 self.ended = Some(Ok(()));
-                None
+                orders
             }
-            _ => None,
         }
     }
 
-    /// Takes up a chain that waited for its answer, unless the thread ends: then another does.
-    fn resume(&mut self, state: &mut Locked<Q>) -> Event {
-        if self.leaves() {
-            Event::Refused
-        } else if self.server.resumes(state) {
-            Event::Resumed { another: self.server.has_answered(state) }
-        } else {
-            Event::NoneResumed
+    /// Takes up a chain that waited for its answer.
+    fn resume(&mut self, state: &mut Locked<Q>) -> Orders {
+        if !self.server.resumes(state) {
+            return state.turns.none_resumed();
         }
+        let another = self.server.has_answered(state);
+        let (next, is_full) = (state.next_position(), !state.has_room());
+        state.turns.resumed(another, next, is_full, self.looping.another_comes())
     }
 
     /// Pops the next chain, if one is available.
-    fn pop(&mut self, state: &mut Locked<Q>) -> Event {
-        if self.leaves() {
-            return Event::Refused;
-        }
+    fn pop(&mut self, state: &mut Locked<Q>) -> Orders {
         let chain = state.next_chain();
         self.server.looks(state, self.asked_for.take() == Some(chain));
         if !state.is_live() || state.until == Some(chain.1) {
-            return Event::Paused;
+            return state.turns.paused();
         }
         let popped = self.server.pop(state);
         state.begin_again_in_pop();
-        if let Ok(popped) = popped {
-            state.is_missing = popped == Popped::Missing;
-        }
         match popped {
             Ok(Popped::Chain) => {
+                state.is_missing = false;
                 self.begin_chain(state);
-                Event::Popped
+                let (next, is_full) = (state.next_position(), !state.has_room());
+                state.turns.popped(next, is_full, self.looping.another_comes())
             }
-            Ok(Popped::Idle) => Event::Idle { polls: self.begins_to_poll(state) },
+            Ok(Popped::Idle) => {
+                state.is_missing = false;
+                let polls = self.begins_to_poll(state);
+                let next = state.next_position();
+                state.turns.idle(polls, next)
+            }
             Ok(Popped::Missing) => {
+                state.is_missing = true;
                 self.missing = Some((state.next_chain(), false));
-                Event::Later
+                state.turns.later()
             }
-            Err(Status::ChainInFlight) if state.is_full() => Event::Full,
-            Err(Status::ChainInFlight) => Event::Paused,
-            Err(status) if status.is_out_of_memory() => Event::Later,
+            Err(Status::ChainInFlight) if state.is_full() => state.turns.full(),
+            Err(Status::ChainInFlight) => state.turns.paused(),
+            Err(status) if status.is_out_of_memory() => state.turns.later(),
             Err(status) => {
                 self.server.refuse(state, status);
-                Event::Paused
+                state.turns.paused()
             }
         }
     }
@@ -251,83 +257,82 @@ impl<'l, 's, Q: Queued, S: Server<Q>> Thread<'l, 's, Q, S> {
     }
 
     /// Enables notifications of the driver for the next chain.
-    fn arm(&mut self, state: &mut Locked<Q>) -> Event {
+    fn arm(&mut self, state: &mut Locked<Q>) -> Orders {
         if !state.may_tell() {
-            return Event::NotArmed;
+            return state.turns.not_armed();
         }
         match self.server.set_notification(state, true) {
-            Ok(true) => Event::Armed,
-            Ok(false) => Event::NotArmed,
+            Ok(true) => {
+                let next = state.next_position();
+                let orders = state.turns.armed(next);
+                if orders.action() == DO_POP && !self.sees_more(state) {
+                    return state.turns.idle(false, next); // such a pop is a load
+                }
+                orders
+            }
+            Ok(false) => state.turns.not_armed(),
             Err(status) => {
                 self.untold = Some(status);
                 if status == Status::NotMapped {
                     self.missing = Some((state.next_chain(), true));
                 }
-                Event::NotArmed
+                state.turns.not_armed()
             }
         }
     }
 
     /// Whether a chain is available. The ring's index is loaded only if the last one shows none.
-    fn look(&mut self, state: &mut Locked<Q>) -> Event {
-        let has_more = state.queue().knows_more()
-            || self.server.available_index(state) != Some(state.next_chain().1);
-        if has_more {
-            Event::More
-        } else {
-            Event::NoMore
-        }
+    fn sees_more(&mut self, state: &mut Locked<Q>) -> bool {
+        state.queue().knows_more()
+            || self.server.available_index(state) != Some(state.next_position())
     }
 
     /// Disables notifications. If that fails, the driver notifies in vain.
-    fn mute(&mut self, state: &mut Locked<Q>) -> Event {
+    fn mute(&mut self, state: &mut Locked<Q>) -> Orders {
         if state.may_tell() {
             let _ = self.server.set_notification(state, false);
         }
-        Event::Muted
+        state.turns.muted()
     }
 
     /// Answers the chain that the server has, without the lock, and pushes it.
-    fn answer(&mut self) -> (Held<'l, Q>, Came) {
+    fn answer(&mut self) -> Turn<'l, Q> {
         (self.untold, self.missing) = (None, None);
         let has_reply = self.server.answer();
         let mut state = self.looping.come_back();
-        if !has_reply {
-            return (state, Came::Back);
+        if has_reply {
+            self.must_undo = self.server.push(&mut state);
+            state.returned += 1;
+            self.looping.notify_if_awaited(&state);
         }
-        self.must_undo = self.server.push(&mut state);
-        state.returned += 1;
-        self.looping.notify_if_awaited(&state);
-        (state, Came::Pushed)
+        self.come(state, has_reply)
     }
 
     /// Undoes an answer, without the lock: calls of the file system. For the machine the thread has
     /// ended, and another one comes: so nobody relies on it meanwhile.
-    fn undo(&mut self) -> Held<'l, Q> {
+    fn undo(&mut self) -> Turn<'l, Q> {
         self.must_undo = false;
         self.server.undo();
-        self.looping.come_back()
+        self.come(self.looping.come_back(), false)
     }
 
     /// Sleeps until an event.
-    fn sleep(&mut self) -> Held<'l, Q> {
+    fn sleep(&mut self) -> Turn<'l, Q> {
         (self.rounds, self.asked_for) = (0, None);
         if let Err(error) = self.looping.wait(self.server) {
             self.ended = Some(Err(error));
         }
-        self.looping.lock()
+        self.begin(self.looping.lock(), Turns::woken)
     }
 
     /// Asks the IOMMU for what the thread missed, or waits for a moment. It takes no event from a
     /// thread that sleeps.
-    fn step_aside(&mut self) -> Held<'l, Q> {
-        if let Some((look, polled)) = self.polls.take() {
-            return self.poll(look, polled);
-        }
-        match self.ask_for_missing() {
-            Some(state) => state,
-            None => self.wait_a_moment(),
-        }
+    fn step_aside(&mut self) -> Turn<'l, Q> {
+        let state = match self.polls.take() {
+            Some((look, polled)) => self.poll(look, polled),
+            None => self.ask_for_missing().unwrap_or_else(|| self.wait_a_moment()),
+        };
+        self.come(state, false)
     }
 
     /// Looks for a chain, or for an answer to one that waits, for a while.
@@ -336,7 +341,7 @@ impl<'l, 's, Q: Queued, S: Server<Q>> Thread<'l, 's, Q, S> {
         loop {
             (0..PAUSES).for_each(|_| hint::spin_loop());
             let mut state = self.looping.lock();
-            let has_more = self.server.has_answered(&state) || self.look(&mut state) == Event::More;
+            let has_more = self.server.has_answered(&state) || self.sees_more(&mut state);
             next = next.and_then(|look| state.polling.goes_on(look, Instant::now()));
             if has_more || next.is_none() || !state.may_poll() {
                 drop(polled); // under the lock

@@ -68,17 +68,54 @@ impl Entry {
 }
 
 impl Worker {
-    /// Pops a chain by loads that are made ahead, and returns the end of the pop, or that it asks
-    /// for a load. A look at a queue that can be popped, and whose available index is that of its
-    /// next chain, is idle by the library's contract: it isn't called for that.
+    /// The available index of a queue without an IOMMU's table, if the worker's regions have it: a
+    /// load, with what an acquire fence orders after it (`Server::available_index` of `live`).
+    pub fn available_index(&mut self, queue: &Queue, memory: &dyn GuestMemory) -> Option<u16> {
+        let at = self.available_at(queue).filter(|_| !self.has_table)?;
+        let index = memory::load_u16(memory, at);
+        fence(Ordering::Acquire);
+        Some(index)
+    }
+
+    /// Loads the available index, unless the last one shows a chain that is left. `None` if the
+    /// rings' places aren't known.
+    pub(super) fn first_load(
+        &mut self,
+        queue: &mut Queue,
+        memory: &dyn GuestMemory,
+    ) -> Result<Option<u16>, Status> {
+        grow(&mut self.loaded, MOST_BYTES)?;
+        let at = match self.available_at(queue) {
+            Some(at) => at,
+            None => return Ok(None),
+        };
+        let index = queue.seen_index(self.regions).unwrap_or_else(|| {
+            let index = memory::load_u16(memory, at);
+            queue.see_index(index, self.regions);
+            index
+        });
+        fence(Ordering::Acquire);
+        Ok(Some(index))
+    }
+
+    /// Whether a pop that begins with this index finds no chain. By the library's contract that is
+    /// so if the queue can be popped, and the index is that of its next chain. So the library isn't
+    /// called for it.
+    pub(super) fn is_idle(&self, queue: &Queue, index: Option<u16>) -> bool {
+        index == Some(queue.next_avail()) && queue.may_pop() && !self.has_table
+    }
+
+    /// Pops a chain by loads that are made ahead, from the available index on, and returns the end
+    /// of the pop, or that it asks for a load.
     pub(super) fn pop_ahead(
         &mut self,
         queue: &mut Queue,
         memory: &dyn GuestMemory,
+        index: Option<u16>,
     ) -> Result<PopStep, Status> {
-        let is_idle = self.load_ahead(queue, memory)?;
-        if is_idle && queue.may_pop() && !self.has_table {
-            return Ok(PopStep::Idle);
+        (self.ahead.count, self.ahead.len) = (0, 0);
+        if let (Some(index), Some(ring)) = (index, self.ring) {
+            self.load_ahead(queue.next_avail(), memory, &ring, index);
         }
         let Loads { ahead, count, len } = &self.ahead;
         self.chain.pop_ahead(queue, &ahead[..*count], &self.loaded[..*len], &mut self.pop)
@@ -94,45 +131,40 @@ impl Worker {
         })
     }
 
-    /// Where the rings of a queue are; `None` if one isn't in one region.
-    fn ring(&mut self, layout: QueueLayout) -> Option<Ring> {
-        if let Some(ring) = self.ring.filter(|ring| ring.layout == layout) {
-            return Some(ring);
-        }
+    /// Where a queue's available index is, if its rings are known.
+    #[inline]
+    fn available_at(&mut self, queue: &Queue) -> Option<usize> {
+        let layout = queue.layout();
+        let available = match &self.ring {
+            Some(ring) if ring.layout == layout => ring.available,
+            _ => self.find_ring(layout)?,
+        };
+        Some(available.wrapping_add(2))
+    }
+
+    /// Finds the rings of a queue, and returns where the available one is; `None` if one isn't in
+    /// one region.
+    #[cold]
+    fn find_ring(&mut self, layout: QueueLayout) -> Option<usize> {
         let size = u64::from(layout.size);
         let descriptors = self.place(layout.descriptors, ENTRY as u64 * size)?;
         let available = self.place(layout.available, 6 + 2 * size)?;
         self.ring = Some(Ring { layout, descriptors, available });
-        self.ring
+        Some(available)
     }
 
-    /// Makes the loads of the next pop, as far as they can be told. Returns whether the available
-    /// index shows no chain.
-    fn load_ahead(&mut self, queue: &mut Queue, memory: &dyn GuestMemory) -> Result<bool, Status> {
-        grow(&mut self.loaded, MOST_BYTES)?;
-        (self.ahead.count, self.ahead.len) = (0, 0);
-        let ring = match self.ring(queue.layout()) {
-            Some(ring) => ring,
-            None => return Ok(false),
-        };
-        let (size, position) = (ring.layout.size, queue.next_avail());
-        let at = ring.available.wrapping_add(2);
-        let index = queue.seen_index(self.regions).unwrap_or_else(|| {
-            let index = memory::load_u16(memory, at);
-            queue.see_index(index, self.regions);
-            index
-        });
-        fence(Ordering::Acquire);
-        self.add_number(at, index);
+    /// Makes the loads of the pop of the chain at a position, as far as they can be told.
+    fn load_ahead(&mut self, position: u16, memory: &dyn GuestMemory, ring: &Ring, index: u16) {
+        self.add_number(ring.available.wrapping_add(2), index);
+        let size = ring.layout.size;
         if index == position || size == 0 {
-            return Ok(index == position);
+            return;
         }
         let at = ring.available.wrapping_add(4 + 2 * usize::from(position & (size - 1)));
         let head = memory::load_u16(memory, at);
         self.add_number(at, head);
-        self.load_chain(memory, &ring, head);
+        self.load_chain(memory, ring, head);
         fence(Ordering::Acquire);
-        Ok(false)
     }
 
     /// A load of one of the ring's numbers, which was made: one of the first two.

@@ -4,6 +4,7 @@ mod begins;
 mod chance;
 mod events;
 mod polling;
+mod waits;
 
 use super::*;
 use crate::live::events::{new_event, signal};
@@ -62,22 +63,43 @@ enum Rest {
     End,
 }
 
+/// How a thread came to the lock: it slept, or it didn't.
+#[derive(Clone, Copy, PartialEq, Eq)]
+enum Came {
+    Woken,
+    Back,
+}
+
+/// A thread that has come to the lock takes a turn. Returns what it does without the lock.
+fn turn_of<'l, Q: Queued, S: Server<Q>>(
+    thread: &mut Thread<'l, '_, Q, S>,
+    state: Held<'l, Q>,
+    came: Came,
+) -> u32 {
+    let turn = match came {
+        Came::Woken => thread.begin(state, Turns::woken),
+        Came::Back => thread.come(state, false),
+    };
+    thread.take_turn(turn)
+}
+
 /// A thread takes turns until it waits.
 fn serve<Q: Queued, S: Server<Q>>(looping: &Loop<Q>, server: &mut S, came: Came) -> Rest {
     let mut thread = Thread::new(looping, server);
-    let (mut state, mut came) = (looping.lock(), came);
+    let mut action = turn_of(&mut thread, looping.lock(), came);
     loop {
-        (state, came) = match thread.take_turn(state, came) {
-            Action::Answer => thread.answer(),
-            Action::Sleep => return Rest::Event,
-            Action::StepAside => match thread.ask_for_missing() {
-                Some(state) => (state, Came::Back),
+        let turn = match action {
+            DO_ANSWER => thread.answer(),
+            DO_SLEEP => return Rest::Event,
+            DO_STEP_ASIDE => match thread.ask_for_missing() {
+                Some(state) => thread.come(state, false),
                 None if thread.server.rests(&mut looping.lock()) => return Rest::End,
                 None => return Rest::Again,
             },
-            _ if thread.must_undo => (thread.undo(), Came::Back),
+            _ if thread.must_undo => thread.undo(),
             _ => return Rest::End,
         };
+        action = thread.take_turn(turn);
     }
 }
 
@@ -221,7 +243,7 @@ fn one_thread_at_a_time_is_woken() {
     for wakes in [true, false] {
         let mut server = Fake::default();
         let mut thread = Thread::new(&looping, &mut server);
-        assert_eq!(thread.take_turn(looping.lock(), Came::Back), Action::Answer);
+        assert_eq!(turn_of(&mut thread, looping.lock(), Came::Back), DO_ANSWER);
         assert_eq!((has_woken(&looping), looping.lock().turns.is_called()), (wakes, true));
     }
     let mut server = Fake::default();
@@ -267,7 +289,7 @@ fn a_thread_that_comes_back_is_known() {
     state.turns.add_sleeping(1);
     let mut server = Fake::default();
     let mut other = Thread::new(&looping, &mut server);
-    assert_eq!(other.take_turn(state, Came::Back), Action::Answer);
+    assert_eq!(turn_of(&mut other, state, Came::Back), DO_ANSWER);
     has_begun.recv_timeout(SOON).unwrap();
     assert!(!looping.another_comes() && !has_woken(&looping));
     end.send(()).unwrap();
@@ -277,7 +299,7 @@ fn a_thread_that_comes_back_is_known() {
 /// While a thread asks, another one pops the chain, or none does.
 #[test]
 fn a_refusal_is_for_one_chain() {
-    for (is_popped, forgotten) in [(false, vec![0, 2]), (true, vec![0, 1, 2])] {
+    for (is_popped, forgotten) in [(false, vec![0, 2]), (true, vec![0, 1])] {
         let looping = Arc::new(ring(1, 1));
         let other = looping.clone();
         let meanwhile = move || {
@@ -292,7 +314,7 @@ fn a_refusal_is_for_one_chain() {
             ..Fake::default()
         };
         assert_eq!(serve_all(&looping, &mut server), Rest::Event);
-        let pops = if is_popped { 3 } else { 4 };
+        let pops = if is_popped { 2 } else { 3 };
         assert_eq!((server.asks, server.pops), (1, pops));
         assert!(server.forgotten.starts_with(&forgotten), "{:?}", server.forgotten);
     }
@@ -530,52 +552,6 @@ fn an_event_that_replaces_another_is_heard() {
     looping.lock().available = 1;
     signal(&event).unwrap();
     until(&looping, |state| state.queue.next_used() == 1);
-}
-
-/// One wait ends before another.
-#[test]
-fn several_threads_wait_at_once() {
-    let (looping, has_begun, end) = held(1);
-    has_begun.recv_timeout(SOON).unwrap();
-    let waiter = looping.clone();
-    let waits = thread::spawn(move || {
-        let begun = Instant::now();
-        drop(waiter.settle(waiter.lock(), 2 * SOON));
-        begun.elapsed()
-    });
-    until(&looping, Locked::is_awaited);
-    drop(looping.settle(looping.lock(), Duration::from_millis(1)));
-    assert!(looping.lock().is_awaited());
-    end.send(()).unwrap();
-    assert!(waits.join().unwrap() < SOON, "nobody says that the chain is returned");
-}
-
-/// A thread has panicked under the lock. Waits go on as before.
-#[test]
-fn a_panic_ends_no_wait() {
-    let (looping, has_begun, _end) = held(1);
-    has_begun.recv_timeout(SOON).unwrap();
-    let other = looping.clone();
-    let panics = thread::spawn(move || {
-        let _state = other.lock();
-        panic!("the memory panics, as the test wants it");
-    });
-    assert!(panics.join().is_err());
-    let (other, is_over) = (looping.clone(), Arc::new(AtomicBool::new(false)));
-    let over = is_over.clone();
-    let notifier = thread::spawn(move || {
-        while !over.load(Ordering::Relaxed) {
-            other.notify_waiting();
-            thread::yield_now();
-        }
-    });
-    let begun = Instant::now();
-    let state = looping.settle(looping.lock(), MOMENT);
-    assert!(begun.elapsed() >= MOMENT);
-    drop(looping.close(state, || begun.elapsed() < 2 * MOMENT));
-    assert!(begun.elapsed() >= 2 * MOMENT);
-    is_over.store(true, Ordering::Relaxed);
-    notifier.join().unwrap();
 }
 
 /// One thread's end wakes the next.

@@ -8,9 +8,9 @@ const ROUNDS: u64 = 20;
 
 /// The chains whose answers have come, for both threads.
 #[derive(Default)]
-struct Came(Mutex<u32>);
+struct Answers(Mutex<u32>);
 
-impl Came {
+impl Answers {
     fn next(&self) -> Option<u32> {
         let mut left = self.0.lock().unwrap();
         let next = *left;
@@ -21,7 +21,7 @@ impl Came {
 
 /// Takes up chains whose answers have come. The first of two is undone until the test ends that.
 struct Late {
-    came: Arc<Came>,
+    came: Arc<Answers>,
     taken: Sender<()>,
     ends: Arc<Mutex<Receiver<()>>>,
     must_undo: bool,
@@ -74,7 +74,7 @@ impl Server<Ring> for Late {
 #[test]
 fn an_answer_waits_for_no_other() {
     let rounds = std::env::var("PITSKHOMU_SEQUENCES").ok().and_then(|text| text.parse().ok());
-    let (looping, came) = (Arc::new(ring(0, 0)), Arc::new(Came::default()));
+    let (looping, came) = (Arc::new(ring(0, 0)), Arc::new(Answers::default()));
     let ((taken, hears), (end, ends)) = (channel(), channel());
     let ends = Arc::new(Mutex::new(ends));
     for _ in 0..2 {

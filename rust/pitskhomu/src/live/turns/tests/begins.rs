@@ -43,7 +43,8 @@ impl Server<Ring> for Begins {
     }
 
     fn available_index(&mut self, ring: &Ring) -> Option<u16> {
-        Some(ring.queue.next_avail())
+        let comes = self.pops == 1 && !self.told.is_empty();
+        Some(ring.queue.next_avail() + u16::from(comes))
     }
 
     fn refuse(&mut self, _: &mut Ring, _: Status) {}
@@ -59,7 +60,7 @@ impl Server<Ring> for Begins {
 fn a_queue_may_begin_in_a_pop() {
     let (looping, mut server) = (ring(1, 2), Begins::default());
     let mut thread = Thread::new(&looping, &mut server);
-    assert_eq!(thread.take_turn(looping.lock(), Came::Woken), Action::Answer);
+    assert_eq!(turn_of(&mut thread, looping.lock(), Came::Woken), DO_ANSWER);
     drop(thread);
     assert_eq!(server.told, [0, 1]);
 }
@@ -69,7 +70,7 @@ fn a_queue_may_begin_in_a_pop() {
 fn a_thread_that_waits_rests() {
     let (looping, mut server) = (ring(1, 0), Begins { has_failed: true, ..Begins::default() });
     let mut thread = Thread::new(&looping, &mut server);
-    assert_eq!(thread.take_turn(looping.lock(), Came::Back), Action::StepAside);
+    assert_eq!(turn_of(&mut thread, looping.lock(), Came::Back), DO_STEP_ASIDE);
     let begun = Instant::now();
     drop(thread.step_aside());
     drop(thread);

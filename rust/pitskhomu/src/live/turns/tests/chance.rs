@@ -342,10 +342,10 @@ fn turn(looping: &Loop<World>) -> bool {
         (world.is_pending, world.is_handed) = (false, false);
         Came::Woken
     };
-    turn_of(looping, world, came)
+    turn_in(looping, world, came)
 }
 
-fn turn_of(looping: &Loop<World>, mut world: Held<'_, World>, came: Came) -> bool {
+fn turn_in(looping: &Loop<World>, mut world: Held<'_, World>, came: Came) -> bool {
     world.counts.turns += 1;
     let others = world.turns.sleeping() + world.aside as u64 - u64::from(came == Came::Woken);
     drop(world);
@@ -362,7 +362,7 @@ fn turn_of(looping: &Loop<World>, mut world: Held<'_, World>, came: Came) -> boo
 /// Runs the threads until all chains are served. Between, the queue may begin again.
 fn serve_chains(looping: &Loop<World>, threads: usize) {
     (0..threads).for_each(|_| {
-        turn_of(looping, looping.lock(), Came::Back);
+        turn_in(looping, looping.lock(), Came::Back);
     });
     loop {
         let mut world = looping.lock();

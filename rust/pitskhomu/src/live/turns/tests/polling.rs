@@ -17,14 +17,14 @@ fn polled(most: Duration) -> Loop<Ring> {
 fn a_chain_is_found_without_an_event() {
     let (looping, mut server) = (polled(SOON), Fake::default());
     let mut thread = Thread::new(&looping, &mut server);
-    assert_eq!(thread.take_turn(looping.lock(), Came::Back), Action::Answer);
-    let (state, came) = thread.answer();
-    assert_eq!(thread.take_turn(state, came), Action::StepAside);
+    assert_eq!(turn_of(&mut thread, looping.lock(), Came::Back), DO_ANSWER);
+    let turn = thread.answer();
+    assert_eq!(thread.take_turn(turn), DO_STEP_ASIDE);
     assert!(looping.is_polled());
     looping.lock().available = 2;
-    let state = thread.step_aside();
+    let turn = thread.step_aside();
     assert!(!looping.is_polled() && !has_woken(&looping));
-    assert_eq!(thread.take_turn(state, Came::Back), Action::Answer);
+    assert_eq!(thread.take_turn(turn), DO_ANSWER);
     drop(thread);
     assert_eq!((server.told, server.answers), (vec![false], 1));
 }
@@ -35,9 +35,9 @@ fn a_stop_ends_a_look() {
     for round in 0..20 {
         let (looping, mut server) = (polled(3 * SOON), Fake::default());
         let mut thread = Thread::new(&looping, &mut server);
-        assert_eq!(thread.take_turn(looping.lock(), Came::Back), Action::Answer);
-        let (state, came) = thread.answer();
-        assert_eq!(thread.take_turn(state, came), Action::StepAside);
+        assert_eq!(turn_of(&mut thread, looping.lock(), Came::Back), DO_ANSWER);
+        let turn = thread.answer();
+        assert_eq!(thread.take_turn(turn), DO_STEP_ASIDE);
         match round % 3 {
             0 => looping.lock().refused = Some(Status::OtherTable),
             1 => looping.lock().until = Some(1),
@@ -58,7 +58,7 @@ fn a_thread_that_looks_comes() {
     let mut server = Fake::default();
     let mut other = Thread::new(&looping, &mut server);
     looping.lock().available = 2;
-    assert_eq!(other.take_turn(looping.lock(), Came::Back), Action::Answer);
+    assert_eq!(turn_of(&mut other, looping.lock(), Came::Back), DO_ANSWER);
     assert!(!has_woken(&looping) && looping.another_comes());
     drop(polled);
     assert!(!has_woken(&looping) && !looping.another_comes());
