@@ -1,1 +1,3 @@
+pub mod Loop
+pub mod LoopSteps
 pub mod Reports
