@@ -224,8 +224,8 @@ impl<F: ServedFs> Core<F> {
         }
     }
 
-    /// The calls that chains in flight wait for, and whether calls of an earlier session go on that
-    /// may change this one, if there are any.
+    /// The calls that chains in flight wait for, and whether calls of an earlier session continue
+    /// that may change this one, if there are any.
     pub fn held_calls(&self) -> Option<String> {
         let mut held: Vec<String> = self.rings.iter().filter_map(Ring::held).collect();
         if self.late.load(Ordering::SeqCst) > 0 {

@@ -89,7 +89,7 @@ pub struct Options {
     ///
     /// The process that was started ends once the new daemon serves, with status 0, or with status
     /// 1 if the old one continues. So a script, or ExecReload= of systemd, knows when the old
-    /// daemon is replaced. systemd is told the new daemon's process number (MAINPID=).
+    /// daemon is replaced. systemd gets the new daemon's process number (MAINPID=).
     #[arg(long, requires = "take_over")]
     pub detach: bool,
     /// The tag that front-ends may ask for
@@ -241,7 +241,7 @@ pub struct Options {
     pub allow_mmap: bool,
     /// The guest sees mounts below the directory as mounts of its own [default]
     ///
-    /// Then files of two mounts with the same inode number are told apart.
+    /// Then files of two mounts stay distinct, even with the same inode number.
     #[arg(long, overrides_with = "no_announce_submounts")]
     pub announce_submounts: bool,
     /// The guest sees mounts below the directory as directories

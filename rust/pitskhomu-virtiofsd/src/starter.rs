@@ -1,5 +1,5 @@
 //! Those who wait until this daemon serves: systemd, for a service of `Type=notify`, and the
-//! process that `--detach` leaves in the foreground. Both are told once, and their sockets are
+//! process that `--detach` leaves in the foreground. Both are notified once, and their sockets are
 //! closed, before a guest is served.
 use log::{debug, warn};
 use std::env;

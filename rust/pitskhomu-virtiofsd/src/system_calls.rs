@@ -23,7 +23,7 @@ const OF_VIRTIOFSD: &str = "_llseek accept4 brk capget capset clock_gettime clon
 ///   with it a wait that has a time limit (a futex: std's `recv_timeout`, `park_timeout`,
 ///   `wait_timeout`). virtiofsd has no such wait.
 /// - `dup3`: standard error leads nowhere for a moment (`logger::without_errors`), and a daemon
-///   that replaces another goes on with the front-end's socket.
+///   that replaces another continues with the front-end's socket.
 /// - `pause`: std has a thread that begins or ends wait so while another reports that its stack has
 ///   overflowed, or ends the process.
 const OWN: &str = "restart_syscall dup3 pause";

@@ -160,7 +160,7 @@ impl Chain {
         self.popped(status, pop)
     }
 
-    /// Begins a pop. `bytes` has those of the loads that were made ahead, one behind another.
+    /// Begins a pop. `bytes` has those of the loads that were made ahead, one after another.
     pub fn pop_ahead(
         &mut self,
         queue: &mut Queue,

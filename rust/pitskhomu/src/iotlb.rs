@@ -151,7 +151,7 @@ impl Iotlb {
     /// Nothing changes.
     /// - `BadArgument`: a number isn't a multiple of [`Iotlb::PAGE`], `len` is 0, or the end is
     ///   above 2^64.
-    /// - `OutOfMemory`: an allocation failed. Only a mapping that goes on behind the range needs
+    /// - `OutOfMemory`: an allocation failed. Only a mapping that continues after the range needs
     ///   one; [`Iotlb::clear`] never does.
     pub fn unmap(&mut self, iova: u64, len: u64) -> Result<(), Status> {
         chain::unmap_iotlb(&mut self.place, iova, len)

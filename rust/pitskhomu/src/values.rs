@@ -38,8 +38,8 @@ pub struct Handle(
 );
 
 /// The number of a request: that of the chain that a worker took. No two chains of this process
-/// have the same, of whatever queue and device, and also after a reset: so what is kept by it is
-/// never another request's.
+/// have the same number, not even in two queues or devices, or after a reset. So data that you keep
+/// under it is never another request's.
 #[derive(Clone, Copy, Debug, Default, PartialEq, Eq, PartialOrd, Ord, Hash)]
 pub struct RequestId(u64);
 
@@ -494,7 +494,7 @@ mod tests {
     use super::*;
     use alloc::string::ToString;
 
-    /// The first number, too, is none that the default has.
+    /// The first number, too, differs from the default.
     #[test]
     fn no_two_requests_have_one_number() {
         let ids: [RequestId; 9] = core::array::from_fn(|_| RequestId::next());

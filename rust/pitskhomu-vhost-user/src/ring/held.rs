@@ -67,7 +67,7 @@ impl Ring {
         !doing.is_dropped()
     }
 
-    /// Opens the ring, if it runs. Threads that wait go on with their chains, unless the ring's
+    /// Opens the ring, if it runs. Threads that wait continue with their chains, unless the ring's
     /// memory isn't the one that they were taken from.
     pub(super) fn open(&self, state: &mut State, memory: &Table) {
         if !state.runs() {

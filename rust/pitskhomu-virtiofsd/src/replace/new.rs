@@ -153,7 +153,7 @@ fn confirm(old: RawFd, life: Option<&OwnedFd>) -> io::Result<()> {
 }
 
 /// Gives the front-end's socket the number of the connection to the old daemon, which gets another:
-/// crate vhost goes on with that number, and with the features that were agreed on.
+/// crate vhost continues with that number, and with the features that were agreed on.
 fn replace(number: RawFd, socket: &OwnedFd) -> io::Result<OwnedFd> {
     // SAFETY: no memory is touched. The number's owner, crate vhost, only uses it.
     let (old, replaced) = unsafe {

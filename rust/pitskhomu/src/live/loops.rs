@@ -420,9 +420,9 @@ impl<Q: Queued> Loop<Q> {
         Ok(())
     }
 
-    /// The loop of each of the queue's threads: `Ok` once its server ends it. It begins with a look
-    /// for chains, so start it on threads when the queue may be served: an earlier thread that has
-    /// a chain may have disabled notifications, since no other slept.
+    /// The loop of each of the queue's threads: `Ok` once its server stops it. It looks for chains
+    /// first, so start it on threads when the queue may be served: an earlier thread that has a
+    /// chain may have disabled notifications, since no other slept.
     ///
     /// # Errors
     /// The system's: events can't be waited for.
@@ -444,7 +444,7 @@ impl<Q: Queued> Loop<Q> {
         Ok(())
     }
 
-    /// Waits for so long, or until somebody notifies who waits.
+    /// Waits for so long, or until a notification.
     pub(super) fn wait_a_moment<'a>(&'a self, state: Held<'a, Q>, time: Duration) -> Held<'a, Q> {
         let waited = self.changed.wait_timeout(state, time);
         waited.unwrap_or_else(PoisonError::into_inner).0
@@ -468,7 +468,7 @@ impl<Q: Queued> Loop<Q> {
         }
     }
 
-    /// Has who waits look at its condition again.
+    /// Has a waiting thread look at its condition again.
     pub fn notify_waiting(&self) {
         self.changed.notify_all();
     }

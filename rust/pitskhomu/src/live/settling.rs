@@ -1,5 +1,5 @@
 //! The waits of who stops a queue, or a part of what it needs. Each is bounded: a chain may wait
-//! for ever for its answer. The queue's threads go on meanwhile.
+//! for ever for its answer. The queue's threads continue meanwhile.
 use super::loops::{Locked, Loop, Queued};
 use std::sync::MutexGuard;
 use std::time::Duration;

@@ -25,7 +25,7 @@ pub(super) struct Ring {
     available: usize,
 }
 
-/// The loads of a pop. Their bytes lie one behind another in the worker's `loaded`.
+/// The loads of a pop. Their bytes lie one after another in the worker's `loaded`.
 #[derive(Default)]
 pub(super) struct Loads {
     ahead: [sys::LoadAhead; MOST],

@@ -39,7 +39,7 @@ impl fmt::Debug for Lent<'_> {
 }
 
 impl Drop for Lent<'_> {
-    /// The table goes back to its place.
+    /// The table is returned to its slot.
     fn drop(&mut self) {
         let (chain, place) = (&mut self.worker.chain, self.iotlb.place_mut());
         if chain.exchange_iotlb(place).is_err() {

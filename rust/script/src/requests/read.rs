@@ -112,7 +112,7 @@ fn variant(word: &str) -> Option<Variant> {
     })
 }
 
-/// Reads a line, with the lines that go on with it.
+/// Reads a line, with the lines that continue it.
 fn read(
     lets: &mut HashMap<String, Vec<u8>>,
     groups: &mut Vec<Group>,

@@ -19,7 +19,7 @@ fn several_threads_wait_at_once() {
     assert!(waits.join().unwrap() < SOON, "nobody says that the chain is returned");
 }
 
-/// A thread has panicked under the lock. Waits go on as before.
+/// A thread has panicked under the lock. Waits continue as before.
 #[test]
 fn a_panic_ends_no_wait() {
     let (looping, has_begun, _end) = held(1);
