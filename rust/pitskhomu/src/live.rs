@@ -81,6 +81,7 @@
 mod events;
 mod loops;
 mod machine;
+mod moments;
 mod polling;
 mod seats;
 mod settling;
@@ -526,7 +527,6 @@ impl Serving {
         state.is_reset |= is_reset;
         drop(state);
         self.shared.threads.look();
-        self.shared.threads.notify_waiting(); // a thread may wait for a moment
         for thread in self.threads.drain(..) {
             let _ = thread.join(); // it doesn't panic
         }

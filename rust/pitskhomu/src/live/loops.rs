@@ -1,6 +1,7 @@
 //! A queue under its lock, and what its threads and its device do with it.
 use super::events::Events;
 use super::machine::Turns;
+use super::moments::Moments;
 use super::polling::Polling;
 use super::turns::Thread;
 use crate::queue::Queue;
@@ -308,6 +309,7 @@ pub struct Loop<Q> {
     /// Notified when a chain is popped or returned while somebody waits, and by `notify_waiting`.
     changed: Condvar,
     pub(super) events: Events,
+    pub(super) moments: Moments,
     /// The number of threads on their way to the lock, from a call. Each looks for a chain then.
     coming: AtomicUsize,
     /// A thread looks for chains before it sleeps. It changes under the lock, unless that thread
@@ -359,9 +361,14 @@ impl<Q: Queued> Loop<Q> {
             is_missing: false,
             polling: Polling::default(),
         };
-        let (state, coming) = (Mutex::new(state), AtomicUsize::new(0));
-        let is_polled = AtomicBool::new(false);
-        Loop { state, changed: Condvar::new(), events, coming, is_polled }
+        Loop {
+            state: Mutex::new(state),
+            changed: Condvar::new(),
+            events,
+            moments: Moments::default(),
+            coming: AtomicUsize::new(0),
+            is_polled: AtomicBool::new(false),
+        }
     }
 
     /// Locks the queue. Chains may be in flight.
@@ -444,12 +451,6 @@ impl<Q: Queued> Loop<Q> {
         Ok(())
     }
 
-    /// Waits for so long, or until a notification.
-    pub(super) fn wait_a_moment<'a>(&'a self, state: Held<'a, Q>, time: Duration) -> Held<'a, Q> {
-        let waited = self.changed.wait_timeout(state, time);
-        waited.unwrap_or_else(PoisonError::into_inner).0
-    }
-
     /// Has a thread that finds no chain look for one for so long before it sleeps, at most, and
     /// only while chains come soon. Meanwhile the driver needn't notify. With 0, as at first, it
     /// sleeps at once.
@@ -457,8 +458,10 @@ impl<Q: Queued> Loop<Q> {
         self.lock().polling.set_most(time);
     }
 
-    /// Has a thread look for chains, as the driver's notification does.
+    /// Has a thread look for chains, as the driver's notification does. Threads that wait for a
+    /// moment, since an allocation failed or the IOMMU hasn't answered, look at once.
     pub fn look(&self) {
+        self.moments.end();
         self.events.wake();
     }
 

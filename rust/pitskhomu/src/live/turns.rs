@@ -74,6 +74,8 @@ pub(super) struct Thread<'l, 's, Q: Queued, S> {
     missing: Option<((u64, u16), bool)>,
     /// Why notifications can't be enabled.
     untold: Option<Status>,
+    /// The looks that were wanted when the thread had to step aside.
+    looks: u64,
     /// The thread looks for chains before it sleeps.
     polls: Option<(Look, Polled<'l, Q>)>,
     /// An answer is undone before the thread comes again.
@@ -91,6 +93,7 @@ impl<'l, 's, Q: Queued, S: Server<Q>> Thread<'l, 's, Q, S> {
             asked_for: None,
             missing: None,
             untold: None,
+            looks: 0,
             polls: None,
             must_undo: false,
             ended: None,
@@ -123,7 +126,7 @@ impl<'l, 's, Q: Queued, S: Server<Q>> Thread<'l, 's, Q, S> {
         event: impl FnOnce(&mut Turns, bool) -> Orders,
     ) -> Turn<'l, Q> {
         if state.begin_again() {
-            self.looping.look();
+            self.looping.events.wake();
         }
         let answers_wait = self.server.has_answered(&state);
         let mut orders = event(&mut state.turns, answers_wait);
@@ -150,7 +153,7 @@ impl<'l, 's, Q: Queued, S: Server<Q>> Thread<'l, 's, Q, S> {
             drop(state);
         }
         if orders.wakes() {
-            self.looping.look();
+            self.looping.events.wake();
         }
         orders.action()
     }
@@ -225,11 +228,11 @@ impl<'l, 's, Q: Queued, S: Server<Q>> Thread<'l, 's, Q, S> {
             Ok(Popped::Missing) => {
                 state.is_missing = true;
                 self.missing = Some((state.next_chain(), false));
-                state.turns.later()
+                self.later(state, Turns::later)
             }
             Err(Status::ChainInFlight) if state.is_full() => state.turns.full(),
             Err(Status::ChainInFlight) => state.turns.paused(),
-            Err(status) if status.is_out_of_memory() => state.turns.later(),
+            Err(status) if status.is_out_of_memory() => self.later(state, Turns::later),
             Err(status) => {
                 self.server.refuse(state, status);
                 state.turns.paused()
@@ -259,7 +262,7 @@ impl<'l, 's, Q: Queued, S: Server<Q>> Thread<'l, 's, Q, S> {
     /// Enables notifications of the driver for the next chain.
     fn arm(&mut self, state: &mut Locked<Q>) -> Orders {
         if !state.may_tell() {
-            return state.turns.not_armed();
+            return self.later(state, Turns::not_armed);
         }
         match self.server.set_notification(state, true) {
             Ok(true) => {
@@ -270,15 +273,21 @@ impl<'l, 's, Q: Queued, S: Server<Q>> Thread<'l, 's, Q, S> {
                 }
                 orders
             }
-            Ok(false) => state.turns.not_armed(),
+            Ok(false) => self.later(state, Turns::not_armed),
             Err(status) => {
                 self.untold = Some(status);
                 if status == Status::NotMapped {
                     self.missing = Some((state.next_chain(), true));
                 }
-                state.turns.not_armed()
+                self.later(state, Turns::not_armed)
             }
         }
+    }
+
+    /// Says by an event that the thread tries again in a moment.
+    fn later(&mut self, state: &mut Locked<Q>, event: impl FnOnce(&mut Turns) -> Orders) -> Orders {
+        self.looks = self.looping.moments.looks();
+        event(&mut state.turns)
     }
 
     /// Whether a chain is available. The ring's index is loaded only if the last one shows none.
@@ -362,6 +371,7 @@ impl<'l, 's, Q: Queued, S: Server<Q>> Thread<'l, 's, Q, S> {
         self.ask(chain, is_notification)
     }
 
+    /// Waits for a moment, or until somebody wants a look.
     fn wait_a_moment(&mut self) -> Held<'l, Q> {
         (self.rounds, self.asked_for) = (0, None);
         let mut state = self.looping.lock();
@@ -369,7 +379,9 @@ impl<'l, 's, Q: Queued, S: Server<Q>> Thread<'l, 's, Q, S> {
             self.ended = Some(Ok(()));
             return state;
         }
-        self.looping.wait_a_moment(state, AGAIN)
+        drop(state);
+        self.looping.moments.wait(self.looks, AGAIN);
+        self.looping.lock()
     }
 
     /// Asks the IOMMU for what the thread missed, without the lock. `None` if it hasn't answered.

@@ -76,3 +76,41 @@ fn a_thread_that_waits_rests() {
     drop(thread);
     assert!(begun.elapsed() >= AGAIN / 2 && server.rests == 1);
 }
+
+/// Somebody wants a look, as who stops the queue, after the thread had to step aside: it looks at
+/// once. A look before that is done already.
+#[test]
+fn a_look_ends_a_moment() {
+    let mut is_quick = [false; 2];
+    for _ in 0..10 {
+        for (is_after, is_quick) in [false, true].into_iter().zip(&mut is_quick) {
+            let looping = ring(1, 0);
+            let mut server = Begins { has_failed: true, ..Begins::default() };
+            looping.look();
+            let mut thread = Thread::new(&looping, &mut server);
+            assert_eq!(turn_of(&mut thread, looping.lock(), Came::Back), DO_STEP_ASIDE);
+            if is_after {
+                looping.look();
+            }
+            let begun = Instant::now();
+            drop(thread.step_aside());
+            *is_quick |= begun.elapsed() < AGAIN / 2;
+        }
+    }
+    assert_eq!(is_quick, [false, true]);
+}
+
+/// It wakes a thread that waits already.
+#[test]
+fn a_look_wakes_who_waits_for_a_moment() {
+    let looping = Arc::new(ring(1, 0));
+    let other = looping.clone();
+    let (looks, begun) = (looping.moments.looks(), Instant::now());
+    let waits = thread::spawn(move || other.moments.wait(looks, 2 * SOON));
+    while !waits.is_finished() && begun.elapsed() < SOON {
+        thread::sleep(Duration::from_millis(20));
+        looping.look();
+    }
+    waits.join().unwrap();
+    assert!(begun.elapsed() < SOON);
+}
