@@ -1,16 +1,19 @@
 //! How a file system is served.
-use crate::device::{Core, ServedFs};
+use crate::device::Core;
 use crate::error::Error;
 use crate::front_end::TAG_LEN;
+use crate::replace::{self, Control, Process};
 use crate::served::{ByMethods, Served};
-use crate::session;
-use crate::socket;
+use crate::session::{self, End};
+use crate::socket::SocketPath;
 use crate::state::MovableState;
 use pitskhomu::live::Handler;
 use pitskhomu::FileSystem;
 use std::fmt;
+use std::io;
+use std::os::fd::OwnedFd;
 use std::os::unix::net::UnixListener;
-use std::path::Path;
+use std::path::{Path, PathBuf};
 use std::sync::Arc;
 use std::time::Duration;
 
@@ -49,6 +52,8 @@ pub struct Builder {
     threads: u16,
     polls: Duration,
     state: Option<Arc<dyn MovableState>>,
+    identity: String,
+    control: Option<PathBuf>,
 }
 
 impl fmt::Debug for Builder {
@@ -58,13 +63,31 @@ impl fmt::Debug for Builder {
             .field("request_queues", &self.request_queues)
             .field("threads", &self.threads)
             .field("polls", &self.polls)
+            .field("identity", &self.identity)
+            .field("control", &self.control)
             .finish_non_exhaustive()
     }
 }
 
 impl Default for Builder {
     fn default() -> Builder {
-        Builder { tag: None, request_queues: 1, threads: 1, polls: Duration::ZERO, state: None }
+        let (polls, identity) = (Duration::ZERO, String::new());
+        let (request_queues, threads) = (1, 1);
+        Builder { tag: None, request_queues, threads, polls, state: None, identity, control: None }
+    }
+}
+
+/// What a process says of itself to one that takes over.
+struct Identity(String);
+
+impl Process for Identity {
+    fn record(&self) -> String {
+        self.0.clone()
+    }
+
+    fn refuses(&self, new: &str) -> io::Result<Option<String>> {
+        let why = || format!("it is \"{new}\", and the one that serves is \"{}\"", self.0);
+        Ok((new != self.0).then(why))
     }
 }
 
@@ -108,6 +131,21 @@ impl Builder {
         self
     }
 
+    /// Lets another process take over from this one while the guest runs, for example one of a
+    /// later version ([`Builder::take_over`]). It connects to a socket at this path, which only the
+    /// same user can use. The file system needs a state that moves, too.
+    pub fn control_socket(mut self, path: impl Into<PathBuf>) -> Builder {
+        self.control = Some(path.into());
+        self
+    }
+
+    /// Sets what this process is, in words. One that takes over must be the same: name all that the
+    /// guest could notice, such as a directory and options. Without this the words are empty.
+    pub fn identity(mut self, words: impl Into<String>) -> Builder {
+        self.identity = words.into();
+        self
+    }
+
     /// Serves a file system by its methods, on the threads of the queues, until the VMM
     /// disconnects. The socket is made at this path; one that an earlier device left there is
     /// removed. A VMM of another user needs the right to write to it.
@@ -118,7 +156,7 @@ impl Builder {
     /// # Errors
     /// `Tag` and `Queues` before anything is done, `Socket`, `Device`, `Thread`, and `FrontEnd`. An
     /// answer that is refused, or a chain that isn't one, is no error: the log has a line (crate
-    /// log).
+    /// log). `Ok` if the VMM has disconnected, or another process has taken over.
     pub fn serve<F: FileSystem + Send + Sync + 'static>(
         self,
         socket: impl AsRef<Path>,
@@ -139,8 +177,10 @@ impl Builder {
         handler: H,
     ) -> Result<(), Error> {
         self.check()?;
-        let socket = socket::Socket::bind(socket.as_ref())?;
-        self.serve_on(&socket.listener, handler)
+        let (mut path, listener) = SocketPath::bind(socket.as_ref())?;
+        let end = self.serve_device(listener.into(), false, handler)?;
+        path.is_others = end == End::Replaced;
+        Ok(())
     }
 
     /// The same for a listener that was made before, for example by systemd, or before the process
@@ -151,20 +191,59 @@ impl Builder {
     /// Those of `serve`.
     pub fn serve_on<H: Handler + 'static>(
         self,
-        listener: &UnixListener,
+        listener: UnixListener,
         handler: H,
     ) -> Result<(), Error> {
         self.check()?;
-        let state = self.state.clone();
-        self.serve_device(listener, Served { handler, state })
+        self.serve_device(listener.into(), false, handler).map(|_| ())
     }
 
-    fn serve_device<F: ServedFs>(self, listener: &UnixListener, fs: F) -> Result<(), Error> {
-        let core = Core::new(fs, self.request_queues.into(), self.threads);
+    /// Takes over from the process whose [`control_socket`](Builder::control_socket) this is, and
+    /// serves its guest from then on, as [`serve_on`](Builder::serve_on) does. ([`ByMethods`] makes
+    /// a handler of a file system.) The VMM's socket never closes, and the guest waits for some
+    /// milliseconds. The state moves as in a migration ([`Builder::movable`]). This process has the
+    /// control socket then, for the next one.
+    ///
+    /// # Errors
+    /// `TakeOver`: the other process continues. It doesn't answer, isn't the same user's or the
+    /// same [`identity`](Builder::identity), holds a call, or this one can't load its state. After
+    /// this process has taken over: those of `serve`.
+    pub fn take_over<H: Handler + 'static>(
+        self,
+        control: impl AsRef<Path>,
+        handler: H,
+    ) -> Result<(), Error> {
+        self.check()?;
+        let socket = replace::connect(control.as_ref()).map_err(Error::TakeOver)?;
+        self.serve_device(socket.into(), true, handler).map(|_| ())
+    }
+
+    fn serve_device<H: Handler + 'static>(
+        self,
+        socket: OwnedFd,
+        takes_over: bool,
+        handler: H,
+    ) -> Result<End, Error> {
+        let path = self.control.as_ref().filter(|_| !takes_over);
+        let made = path.map(|path| SocketPath::control(path)).transpose()?;
+        let (mut path, listener) = made.unzip();
+        let control = Control::new(listener, Identity(self.identity));
+        let mut control = control.map_err(Error::Device)?;
+        control.enter().map_err(Error::Device)?;
+        let core = Core::new(
+            Served { handler, state: self.state },
+            self.request_queues.into(),
+            self.threads,
+        );
         let core = Arc::new(core.map_err(Error::Device)?);
         core.rings.iter().for_each(|ring| ring.poll_at_most(self.polls));
         session::start_threads(&core, || Ok(()))?;
-        session::run(&core, listener, self.tag)
+        let ended = session::run(&core, self.tag, (socket, takes_over), control);
+        core.end();
+        if let Some(path) = &mut path {
+            path.is_others = matches!(ended, Ok(End::Replaced));
+        }
+        ended
     }
 
     fn check(&self) -> Result<(), Error> {

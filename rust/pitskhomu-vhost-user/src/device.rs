@@ -256,14 +256,22 @@ impl<F: ServedFs> Core<F> {
         }
     }
 
+    /// The front-end has left for good: all threads end, as soon as the host's calls do.
+    pub fn end(&self) {
+        let memory = self.memory();
+        self.rings.iter().for_each(|ring| ring.end(&memory));
+    }
+
     /// Starts the thread that ends sessions, with the caller's filter and capabilities. It is there
     /// from the start, so that no reset needs a thread that can't be made.
     pub fn start(self: &Arc<Self>) -> io::Result<()> {
         let (sender, asked): (_, Receiver<SyncSender<()>>) = sync_channel(1);
-        let core = self.clone();
+        let core = Arc::downgrade(self); // which has the sender
         thread::Builder::new().name("session".into()).spawn(move || {
             for done in asked {
-                core.forget_session();
+                if let Some(core) = core.upgrade() {
+                    core.forget_session();
+                }
                 let _ = done.try_send(());
             }
         })?;

@@ -37,6 +37,12 @@ pub enum Error {
         #[source]
         error: io::Error,
     },
+    /// The control socket can't be waited for.
+    #[error("the control socket: {0}")]
+    Control(#[source] io::Error),
+    /// This process doesn't take over from the one that serves, which continues.
+    #[error("the other daemon continues: {0}")]
+    TakeOver(#[source] io::Error),
     /// The front-end doesn't speak vhost-user, or its connection is broken.
     #[error("the front-end: {0}")]
     FrontEnd(#[source] Box<dyn std::error::Error + Send + Sync>),

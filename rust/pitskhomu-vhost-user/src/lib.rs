@@ -74,6 +74,8 @@
 //! - **A guest behind an IOMMU** is served, with QEMU's `iommu_platform=on,ats=on`.
 //! - **A guest migrates** if you give the device a state that moves ([`Builder::movable`]). The
 //!   pages that it writes are logged.
+//! - **Another process takes over** while the guest runs, for example one of a later version
+//!   ([`Builder::control_socket`], [`Builder::take_over`]). The VMM's socket never closes.
 //! - **A panic** of your file system is answered EIO. Your process continues.
 //!
 //! The device has no sandbox and makes none: your process may enter one before it serves. The
@@ -105,6 +107,8 @@ pub mod notifier;
 pub mod numbers;
 #[doc(hidden)]
 pub mod pipe;
+#[doc(hidden)]
+pub mod replace;
 #[doc(hidden)]
 pub mod ring;
 #[doc(hidden)]

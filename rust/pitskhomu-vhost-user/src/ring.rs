@@ -61,6 +61,8 @@ pub struct State {
     is_refused: bool,
     /// The number of threads that serve the ring.
     served_by: usize,
+    /// Its threads end.
+    is_ending: bool,
     /// How often a thread slept, since it found no chain, and how often the driver was interrupted.
     sleeps: u64,
     interrupts: u64,
@@ -272,6 +274,16 @@ impl Ring {
     /// Has a thread look for chains.
     pub fn look(&self) {
         self.served.look();
+    }
+
+    /// Ends the ring, whose front-end has left: nobody gets the replies of its chains, and its
+    /// threads end as soon as their calls of the host do.
+    pub fn end(&self, memory: &Table) {
+        let mut state = self.lock();
+        self.drop_chains(&mut state, memory);
+        (state.is_started, state.is_ending) = (false, true);
+        drop(state);
+        self.look();
     }
 
     fn forget_kick(&self, state: &mut Locked<State>) {

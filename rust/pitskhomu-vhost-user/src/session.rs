@@ -3,17 +3,18 @@ use crate::device::{Core, QueueWorker, ServedFs};
 use crate::error::Error;
 use crate::front_end::FrontEnd;
 use crate::iommu;
+use crate::replace::{wait_for_front_end, Control, Old, Turn, Turns};
 use log::{debug, info, warn};
-use std::io;
-use std::os::fd::AsRawFd;
-use std::os::unix::net::UnixListener;
+use std::io::{self, ErrorKind};
+use std::os::fd::{AsRawFd, OwnedFd};
+use std::os::unix::net::{UnixListener, UnixStream};
 use std::sync::mpsc::{channel, Sender};
 use std::sync::{Arc, Mutex, PoisonError};
 use std::thread;
 use vhost::vhost_user::{BackendReqHandler, Error as MessageError};
 
 /// A front-end's connection, whose messages a thread handles.
-pub type Connection<F> = BackendReqHandler<Mutex<FrontEnd<F>>>;
+type Connection<F> = BackendReqHandler<Mutex<FrontEnd<F>>>;
 
 /// Starts the thread that ends sessions, and the threads of all queues, and returns when each is
 /// there. Each queue's thread calls `begin` first.
@@ -60,36 +61,105 @@ fn start_thread<F: ServedFs>(
     Ok(())
 }
 
-/// Waits for a front-end, and answers its messages until it disconnects.
-pub(crate) fn run<F: ServedFs>(
+/// Why a front-end isn't served any more.
+#[derive(Debug, Clone, Copy, PartialEq, Eq)]
+pub enum End {
+    /// It has disconnected.
+    Disconnected,
+    /// Another process serves it, or waits for it.
+    Replaced,
+}
+
+/// Serves a front-end that connects to this socket, until it disconnects, or another process serves
+/// it. If this process `takes_over`, the socket is a connection to the process that serves.
+///
+/// # Errors
+/// `FrontEnd`, `Control`, `TakeOver`; `Device` for a descriptor that can't be made.
+pub fn run<F: ServedFs>(
     core: &Arc<Core<F>>,
-    listener: &UnixListener,
     tag: Option<String>,
-) -> Result<(), Error> {
+    (mut socket, takes_over): (OwnedFd, bool),
+    mut control: Control,
+) -> Result<End, Error> {
     let front_end = FrontEnd::new(core.clone(), tag).map_err(Error::Device)?;
     let front_end = Arc::new(Mutex::new(front_end));
-    let (stream, _) = listener.accept().map_err(|e| Error::FrontEnd(e.into()))?;
-    info!("a front-end is connected");
+    let old = if takes_over { call(&mut socket, &mut control)? } else { None };
+    let stream = match old {
+        Some(_) => Some(socket.into()),
+        None => accept(socket.into(), &mut control)?,
+    };
+    let Some(stream) = stream else { return Ok(End::Replaced) };
     let mut connection = BackendReqHandler::from_stream(stream, front_end.clone());
     let socket = connection.as_raw_fd();
     let connected = front_end.lock().unwrap_or_else(PoisonError::into_inner).connect(socket);
     connected.map_err(Error::Device)?;
-    let ended = loop {
-        match handle_message(&mut connection, core) {
-            Ok(true) => {}
-            Ok(false) => break Ok(()),
-            Err(e) => break Err(e),
-        }
-    };
+    let mut turns = Turns::new(&front_end, control, socket, old).map_err(Error::Control)?;
+    let ended = answer(&mut connection, core, &mut turns);
+    if !turns.serves() {
+        return ended.and(Err(Error::TakeOver(io::Error::other("it has left"))));
+    }
     core.wait_for_calls();
+    info!("Client disconnected, shutting down");
     ended
+}
+
+/// Says to the process that this one takes over from that it is ready. If no front-end is connected
+/// yet, this one has taken over, and the socket is the one where a front-end will connect.
+fn call(socket: &mut OwnedFd, control: &mut Control) -> Result<Option<Old>, Error> {
+    let old = Old::say_ready(socket.as_raw_fd(), control).map_err(Error::TakeOver)?;
+    let Some(listener) = old.first(control).map_err(Error::TakeOver)? else { return Ok(Some(old)) };
+    info!("the socket is taken over from another daemon");
+    *socket = listener;
+    Ok(None)
+}
+
+/// Waits for the front-end. A second one can't connect. `None` if another process waits there.
+fn accept(listener: UnixListener, control: &mut Control) -> Result<Option<UnixStream>, Error> {
+    info!("Waiting for vhost-user socket connection...");
+    control.process.serves();
+    let turn = wait_for_front_end(listener.as_raw_fd(), control).map_err(Error::Control)?;
+    if turn == Turn::Replaced {
+        info!("another daemon waits for the connection");
+        return Ok(None);
+    }
+    loop {
+        match listener.accept() {
+            Ok((stream, _)) => {
+                info!("Client connected, servicing requests");
+                return Ok(Some(stream)); // and the listener is closed
+            }
+            // It has left already, or a signal came.
+            Err(e) if matches!(e.kind(), ErrorKind::ConnectionAborted | ErrorKind::Interrupted) => {
+            }
+            Err(e) => return Err(Error::FrontEnd(e.into())),
+        }
+    }
+}
+
+/// Answers the front-end's messages until it disconnects, or another process serves it.
+fn answer<F: ServedFs>(
+    connection: &mut Connection<F>,
+    core: &Core<F>,
+    turns: &mut Turns<'_, F>,
+) -> Result<End, Error> {
+    loop {
+        match turns.next() {
+            Ok(Turn::Message) => {}
+            Ok(Turn::Replaced) => return Ok(End::Replaced),
+            Err(e) if turns.serves() => return Err(Error::Control(e)),
+            Err(e) => return Err(Error::TakeOver(e)),
+        }
+        if !handle_message(connection, core)? {
+            return Ok(End::Disconnected);
+        }
+    }
 }
 
 /// Handles the next message. `false` if the front-end has disconnected.
 ///
 /// # Errors
 /// `FrontEnd`: its connection is of no further use.
-pub fn handle_message<F: ServedFs>(
+fn handle_message<F: ServedFs>(
     connection: &mut Connection<F>,
     core: &Core<F>,
 ) -> Result<bool, Error> {

@@ -1,15 +1,17 @@
 //! The socket that the front-end connects to.
 use crate::error::Error;
+use crate::replace;
 use std::fs;
 use std::io;
 use std::os::unix::fs::FileTypeExt;
 use std::os::unix::net::UnixListener;
 use std::path::{Path, PathBuf};
 
-/// A socket, whose path is removed with it.
-pub(crate) struct Socket {
-    pub listener: UnixListener,
+/// The path of a socket that this process has made. It is removed with this value, unless another
+/// process has the socket then.
+pub(crate) struct SocketPath {
     path: PathBuf,
+    pub is_others: bool,
 }
 
 fn bind(path: &Path) -> io::Result<UnixListener> {
@@ -19,18 +21,32 @@ fn bind(path: &Path) -> io::Result<UnixListener> {
     UnixListener::bind(path)
 }
 
-impl Socket {
+impl SocketPath {
     /// Binds the socket, and first removes one that an earlier device left there.
-    pub fn bind(path: &Path) -> Result<Socket, Error> {
+    pub fn bind(path: &Path) -> Result<(SocketPath, UnixListener), Error> {
+        SocketPath::by(bind, path)
+    }
+
+    /// Makes the socket where another process connects to that takes over.
+    pub fn control(path: &Path) -> Result<(SocketPath, UnixListener), Error> {
+        SocketPath::by(replace::bind, path)
+    }
+
+    fn by(
+        bind: fn(&Path) -> io::Result<UnixListener>,
+        path: &Path,
+    ) -> Result<(SocketPath, UnixListener), Error> {
         match bind(path) {
-            Ok(listener) => Ok(Socket { listener, path: path.into() }),
+            Ok(listener) => Ok((SocketPath { path: path.into(), is_others: false }, listener)),
             Err(error) => Err(Error::Socket { path: path.into(), error }),
         }
     }
 }
 
-impl Drop for Socket {
+impl Drop for SocketPath {
     fn drop(&mut self) {
-        let _ = fs::remove_file(&self.path);
+        if !self.is_others {
+            let _ = fs::remove_file(&self.path);
+        }
     }
 }

@@ -22,7 +22,7 @@ mod system_calls;
 use clap::Parser;
 use logger::Logger;
 use options::Options;
-use pitskhomu_vhost_user::{front_end, iommu, memory, notifier, ring};
+use pitskhomu_vhost_user::{notifier, ring};
 use starter::Process;
 use std::fs::File;
 use std::process::ExitCode;

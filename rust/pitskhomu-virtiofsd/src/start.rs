@@ -1,7 +1,6 @@
 //! The start of the daemon, from its options to a served directory.
 use crate::capabilities;
 use crate::fd_table;
-use crate::front_end::FrontEnd;
 use crate::guest_cache::GuestCache;
 use crate::landlock;
 use crate::logger::{self, Logger};
@@ -9,24 +8,24 @@ use crate::numbers::{self, MetricsSocket};
 use crate::open_flags::OpenFlags;
 use crate::options::Options;
 use crate::paths;
-use crate::replace::{self, Control, Old, Record, Turn, Turns};
-use crate::serve::{Core, OfVirtiofsd, ServedFs, Shared};
+use crate::replace::{self, Record};
+use crate::serve::{Core, OfVirtiofsd, Shared};
 use crate::signals;
 use crate::socket::Socket;
 use crate::starter::Starter;
 use crate::state;
 use crate::system_calls;
-use log::{error, info, warn, Level};
-use pitskhomu_vhost_user::session::{self, Connection};
+use log::{error, warn, Level};
+use pitskhomu_vhost_user::replace::Control;
+use pitskhomu_vhost_user::session;
 use std::error::Error;
 use std::fs::{self, File};
 use std::io;
-use std::os::fd::{AsFd, AsRawFd, FromRawFd, IntoRawFd};
-use std::os::unix::net::UnixStream;
+use std::os::fd::{AsFd, AsRawFd, FromRawFd, OwnedFd};
 use std::path::Path;
-use std::sync::{Arc, Mutex, PoisonError};
+use std::sync::Arc;
 use std::time::Duration;
-use vhost::vhost_user::{BackendListener, BackendReqHandler, Listener};
+use vhost::vhost_user::Listener;
 use virtiofsd::limits::setup_rlimit_nofile;
 use virtiofsd::passthrough::read_only::PassthroughFsRo;
 use virtiofsd::passthrough::{CachePolicy, Config, PassthroughFs};
@@ -212,7 +211,7 @@ pub fn run(mut options: Options, foreground: Option<File>, logger: &Logger) -> R
     let metrics = Arc::new(MetricsSocket::new(options.metrics.as_deref(), takes_over)?);
     let mut asked = numbers::Asked::new(metrics.clone())?;
     let mut control =
-        Control::new(&options, Path::new(&shared_dir), (record, number), (metrics, starter))?;
+        replace::control(&options, Path::new(&shared_dir), (record, number), (metrics, starter))?;
     let listener = sandbox
         .enter(listener)
         .map_err(|e| format!("Error entering sandbox: {shared_dir}: {}", sandbox_error(e)))?;
@@ -304,71 +303,18 @@ impl Serving {
         logger.start().map_err(|e| no_thread("the log's thread", &e))?;
         self.asked.start(core.clone()).map_err(|e| no_thread("the thread for the numbers", &e))?;
         session::start_threads(&core, own_directory)?;
-        let front_end = FrontEnd::new(core.clone(), self.tag)?;
-        let front_end = Arc::new(Mutex::new(front_end));
-        let (mut listener, mut control) = (self.listener, self.control);
-        let old = if self.takes_over { call(&mut listener, &mut control)? } else { None };
-        let accepted = match old {
-            Some(_) => Some(connection(listener, front_end.clone())),
-            None => accept(listener, front_end.clone(), &mut control)?,
-        };
-        let Some(handler) = accepted else { return Ok(()) };
-        let socket = handler.as_raw_fd();
-        front_end.lock().unwrap_or_else(PoisonError::into_inner).connect(socket)?;
-        let mut turns = Turns::new(&front_end, control, socket, old)?;
-        let ended = answer(handler, &core, &mut turns);
-        if !turns.serves() {
-            return ended.and(Err("the old daemon has left".into()));
-        }
-        core.wait_for_calls();
-        info!("Client disconnected, shutting down");
-        ended
+        let socket = descriptor(self.listener);
+        session::run(&core, self.tag, (socket, self.takes_over), self.control)?;
+        Ok(())
     }
 }
 
-/// The connection to the daemon that this one takes over from.
-fn connection<F: ServedFs>(
-    listener: Listener,
-    front_end: Arc<Mutex<FrontEnd<F>>>,
-) -> Connection<F> {
+/// The descriptor of a listener that removes no path.
+fn descriptor(listener: Listener) -> OwnedFd {
     let fd = listener.as_raw_fd();
-    std::mem::forget(listener); // it is no listener, and has no path to remove
-                                // SAFETY: the descriptor is open, and owned from here on.
-    BackendReqHandler::from_stream(unsafe { UnixStream::from_raw_fd(fd) }, front_end)
-}
-
-/// Says to the daemon that this one takes over from that it is ready. If no front-end is connected
-/// yet, this daemon has taken over, and the listener is the one where a front-end will connect.
-fn call(listener: &mut Listener, control: &mut Control) -> Result<Option<Old>, Failure> {
-    let old = Old::say_ready(listener.as_raw_fd(), &control.record)?;
-    let socket = old.first(control).map_err(|e| format!("the other daemon continues: {e}"))?;
-    let Some(socket) = socket else { return Ok(Some(old)) };
-    info!("the socket is taken over from another daemon");
-    // SAFETY: the descriptor is open, and the listener owns it from here on.
-    *listener = unsafe { Listener::from_raw_fd(socket.into_raw_fd()) };
-    Ok(None)
-}
-
-/// Waits for the front-end. A second one can't connect. `None` if another daemon waits there.
-fn accept<F: ServedFs>(
-    listener: Listener,
-    front_end: Arc<Mutex<FrontEnd<F>>>,
-    control: &mut Control,
-) -> Result<Option<Connection<F>>, Failure> {
-    info!("Waiting for vhost-user socket connection...");
-    control.starter.serves();
-    if replace::wait_for_front_end(listener.as_raw_fd(), control)? == Turn::Replaced {
-        info!("another daemon waits for the connection");
-        return Ok(None);
-    }
-    let mut listener = BackendListener::new(listener, front_end)?;
-    let handler = loop {
-        if let Some(handler) = listener.accept()? {
-            break handler;
-        }
-    };
-    info!("Client connected, servicing requests");
-    Ok(Some(handler))
+    std::mem::forget(listener);
+    // SAFETY: the descriptor is open, and owned from here on.
+    unsafe { OwnedFd::from_raw_fd(fd) }
 }
 
 /// The message for a thread that can't start. The system gives one error for several limits.
@@ -388,25 +334,6 @@ fn own_directory() -> io::Result<()> {
         _ => {
             let e = io::Error::last_os_error();
             Err(io::Error::other(format!("unshare(CLONE_FS): {e}")))
-        }
-    }
-}
-
-/// Answers the front-end's messages until it disconnects, or another daemon serves it.
-fn answer<F: ServedFs>(
-    mut handler: Connection<F>,
-    core: &Core<F>,
-    turns: &mut Turns<'_, F>,
-) -> Result<(), Failure> {
-    loop {
-        match turns.next() {
-            Ok(Turn::Message) => {}
-            Ok(Turn::Replaced) => return Ok(()),
-            Err(e) if turns.serves() => return Err(format!("the control socket: {e}").into()),
-            Err(e) => return Err(format!("the other daemon continues: {e}").into()),
-        }
-        if !session::handle_message(&mut handler, core)? {
-            return Ok(());
         }
     }
 }

@@ -38,6 +38,9 @@ impl<F: ServedFs> FrontEnd<F> {
     /// Why the daemon can't be replaced now, if so.
     pub fn keeps_daemon(&self) -> Option<&'static str> {
         let protocol = VhostUserVirtioFeatures::PROTOCOL_FEATURES.bits();
+        if !self.core.fs.moves() {
+            return Some("its file system's state doesn't move");
+        }
         if self.migration.is_under_way() {
             return Some("a state is being saved or loaded: try it again after that");
         }

@@ -130,12 +130,12 @@ impl<S: Server> live::Server<State> for Thread<'_, S> {
     fn rests(&mut self, state: &mut State) -> bool {
         state.sleeps += 1;
         self.table = None;
-        false
+        state.is_ending
     }
 }
 
 impl Ring {
-    /// The loop of each of the ring's threads, until the process ends.
+    /// The loop of each of the ring's threads, until the ring or the process ends.
     pub fn run(&self, server: &mut impl Server) {
         let mut state = self.lock();
         state.served_by += 1;

@@ -1,58 +1,37 @@
-//! The control socket, which is made before the sandbox, and what else goes from daemon to daemon.
+//! What the daemon has when it replaces another or is replaced: the PID file, the socket of
+//! --metrics, those who wait until it serves, and its record.
 use super::Record;
 use crate::numbers::MetricsSocket;
 use crate::options::Options;
 use crate::starter::Starter;
-use crate::state;
 use log::warn;
+use pitskhomu_vhost_user::replace::{self, Control, Process};
 use std::fs::{self, File};
 use std::io::{self, Seek, Write};
-use std::mem::size_of;
-use std::os::fd::{AsRawFd, FromRawFd, IntoRawFd, OwnedFd};
-use std::os::unix::fs::{FileTypeExt, MetadataExt};
-use std::os::unix::net::{UnixListener, UnixStream};
-use std::path::{Path, PathBuf};
-use std::ptr;
+use std::os::fd::{AsRawFd, FromRawFd, IntoRawFd, OwnedFd, RawFd};
+use std::os::unix::fs::MetadataExt;
+use std::os::unix::net::UnixListener;
+use std::path::Path;
 use std::sync::Arc;
 use vhost::vhost_user::Listener;
 use virtiofsd::passthrough::MigrationOnError;
 
-/// The control socket, the PID file, and the rest that a daemon needs to replace another or to be
-/// replaced.
+/// What a daemon has besides its device.
 #[derive(Debug)]
-pub struct Control {
-    /// Where another daemon connects to, if there is such a socket.
-    pub listener: Option<OwnedFd>,
+struct Daemon {
     /// The locked PID file.
-    pub number: Option<File>,
+    number: Option<File>,
     /// The number of the process that was started, for the PID file.
     pid: u32,
     /// The socket of --metrics.
-    pub metrics: Arc<MetricsSocket>,
+    metrics: Arc<MetricsSocket>,
     /// Those who wait until this daemon serves.
-    pub starter: Starter,
-    /// The user that may replace the daemon: its own, as the sandbox has it.
-    pub user: u32,
+    starter: Starter,
     /// What the daemon says of itself.
-    pub record: Record,
+    record: Record,
     /// A node that another daemon wouldn't find is answered EIO there
     /// (`--migration-on-error=guest-error`).
-    pub may_lose: bool,
-    /// A file in memory for the state.
-    pub pipe: File,
-    /// Both ends of a pipe. The other daemon gets the reading one, which ends when this one dies.
-    pub life: Option<(OwnedFd, OwnedFd)>,
-}
-
-/// A pipe, which no other process has.
-fn life() -> io::Result<(OwnedFd, OwnedFd)> {
-    let mut ends = [0; 2];
-    // SAFETY: the numbers are borrowed mutably.
-    if unsafe { libc::pipe2(ends.as_mut_ptr(), libc::O_CLOEXEC | libc::O_NONBLOCK) } != 0 {
-        return Err(io::Error::last_os_error());
-    }
-    // SAFETY: the descriptors are new, and nothing else owns them.
-    Ok(unsafe { (OwnedFd::from_raw_fd(ends[0]), OwnedFd::from_raw_fd(ends[1])) })
+    may_lose: bool,
 }
 
 /// Whether a path lies in a directory, also if the two have other names.
@@ -69,91 +48,16 @@ fn lies_in(path: &Path, directory: &Path) -> io::Result<bool> {
     Ok(false)
 }
 
-/// The length of an option of a socket.
-#[allow(clippy::cast_possible_truncation, reason = "options have a few bytes")]
-const fn length<T>() -> libc::socklen_t {
-    size_of::<T>() as libc::socklen_t
-}
-
-/// Has the socket's messages come with the sender's user. The filter of system calls lets nobody
-/// ask for that later.
-fn pass_credentials(listener: &UnixListener) -> io::Result<()> {
-    let on: libc::c_int = 1;
-    let (at, len) = (ptr::from_ref(&on).cast(), length::<libc::c_int>());
-    // SAFETY: the value is borrowed.
-    let set = unsafe {
-        libc::setsockopt(listener.as_raw_fd(), libc::SOL_SOCKET, libc::SO_PASSCRED, at, len)
-    };
-    if set != 0 {
-        return Err(io::Error::last_os_error());
-    }
-    Ok(())
-}
-
-fn bind(path: &Path) -> io::Result<UnixListener> {
-    if fs::symlink_metadata(path).is_ok_and(|data| data.file_type().is_socket()) {
-        if UnixStream::connect(path).is_ok() {
-            let why = "a daemon runs that has it: name it with --take-over to replace that one";
-            return Err(io::Error::new(io::ErrorKind::AddrInUse, why));
-        }
-        fs::remove_file(path)?;
-    }
-    // SAFETY: no memory is touched, and no other thread runs yet.
-    let umask = unsafe { libc::umask(0o177) };
-    let listener = UnixListener::bind(path);
-    // SAFETY: as above.
-    unsafe { libc::umask(umask) };
-    let listener = listener?;
-    pass_credentials(&listener)?;
-    listener.set_nonblocking(true)?;
-    Ok(listener)
-}
-
 /// The control socket at this path. An error is a message.
 fn open(path: &Path, directory: &Path) -> Result<UnixListener, String> {
     let wrong = |e: &dyn std::fmt::Display| format!("--control-socket {}: {e}", path.display());
     if lies_in(path, directory).map_err(|e| wrong(&e))? {
         return Err(wrong(&"it lies in the shared directory, where the guest could replace it"));
     }
-    bind(path).map_err(|e| wrong(&e))
+    replace::bind(path).map_err(|e| wrong(&e))
 }
 
-impl Control {
-    /// Makes the control socket that the options name. A daemon that takes over gets that of the
-    /// old one. An error is a message.
-    pub fn new(
-        options: &Options,
-        directory: &Path,
-        (mut record, number): (Record, Option<File>),
-        (metrics, starter): (Arc<MetricsSocket>, Starter),
-    ) -> Result<Control, String> {
-        record.wanted = metrics.wanted();
-        let path = options.control_socket.as_deref();
-        let listener = match (path, &options.take_over) {
-            (Some(path), Some(old)) if path != old => {
-                let (path, old) = (path.display(), old.display());
-                return Err(format!(
-                    "--control-socket {path}: with --take-over it is that of the old daemon, {old}"
-                ));
-            }
-            (Some(path), None) => Some(open(path, directory)?.into()),
-            _ => None,
-        };
-        let pipe = state::scratch().map_err(|e| format!("a file in memory: {e}"))?;
-        let (pid, user, life) = (std::process::id(), 0, None);
-        let may_lose = options.migration_on_error == MigrationOnError::GuestError;
-        Ok(Control { listener, number, pid, metrics, starter, user, record, may_lose, pipe, life })
-    }
-
-    /// The daemon is in its sandbox, where its user may have another number. The process that waits
-    /// outside has no copy of the pipe.
-    pub fn enter(&mut self) -> io::Result<()> {
-        // SAFETY: no memory is touched.
-        self.user = unsafe { libc::getuid() };
-        self.life = Some(life()?);
-        Ok(())
-    }
-
+impl Daemon {
     /// Writes this daemon's number to the PID file.
     fn write_number(&mut self) -> io::Result<()> {
         let Some(number) = &mut self.number else { return Ok(()) };
@@ -161,20 +65,35 @@ impl Control {
         number.rewind()?;
         writeln!(number, "{}", self.pid)
     }
+}
 
-    /// Why the daemon with this record can't replace this one, if so.
-    pub fn refuses(&self, new: &Record) -> Option<String> {
-        let lends = self.metrics.lend().map(|(_, id)| id);
-        if new.wanted.is_some() && new.wanted != lends {
-            return Some("its option --metrics names another process's socket".into());
-        }
-        self.record.refuses(new)
+impl Process for Daemon {
+    fn record(&self) -> String {
+        self.record.text()
     }
 
-    /// This daemon has taken over from another: the control socket, the PID file, and the socket of
-    /// --metrics if it is the same, are its own from here on.
-    pub fn adopt(&mut self, [listener, number, metrics]: [Option<OwnedFd>; 3]) {
-        (self.listener, self.number) = (listener, number.map(Into::into));
+    fn refuses(&self, new: &str) -> io::Result<Option<String>> {
+        let new = Record::of(new)?;
+        let lends = self.metrics.lend().map(|(_, id)| id);
+        if new.wanted.is_some() && new.wanted != lends {
+            return Ok(Some("its option --metrics names another process's socket".into()));
+        }
+        Ok(self.record.refuses(&new))
+    }
+
+    fn checks_state(&self) -> bool {
+        !self.may_lose
+    }
+
+    fn lend(&self) -> [Option<RawFd>; 2] {
+        let metrics = self.metrics.lend().map(|(fd, _)| fd);
+        [self.number.as_ref().map(AsRawFd::as_raw_fd), metrics]
+    }
+
+    /// The PID file, and the socket of --metrics if it is the same, are this daemon's own from here
+    /// on.
+    fn adopt(&mut self, [number, metrics]: [Option<OwnedFd>; 2]) {
+        self.number = number.map(Into::into);
         if let Err(e) = self.write_number() {
             warn!("the PID file has the old daemon's number: {e}");
         }
@@ -183,34 +102,47 @@ impl Control {
             warn!("nobody serves the socket of --metrics: {e}");
         }
     }
+
+    fn serves(&mut self) {
+        self.starter.serves();
+    }
+
+    fn leaves(&self) {
+        self.metrics.leave();
+    }
 }
 
-/// The user of the process that made the socket that this one is connected to.
-fn peer(socket: &UnixStream) -> io::Result<u32> {
-    let mut peer = libc::ucred { pid: 0, uid: 0, gid: 0 };
-    let mut len = length::<libc::ucred>();
-    let at = ptr::from_mut(&mut peer).cast();
-    // SAFETY: both are borrowed mutably.
-    let got = unsafe {
-        let fd = socket.as_raw_fd();
-        libc::getsockopt(fd, libc::SOL_SOCKET, libc::SO_PEERCRED, at, &raw mut len)
+/// Makes the control socket that the options name. A daemon that takes over gets that of the old
+/// one. An error is a message.
+pub fn control(
+    options: &Options,
+    directory: &Path,
+    (mut record, number): (Record, Option<File>),
+    (metrics, starter): (Arc<MetricsSocket>, Starter),
+) -> Result<Control, String> {
+    record.wanted = metrics.wanted();
+    let path = options.control_socket.as_deref();
+    let listener = match (path, &options.take_over) {
+        (Some(path), Some(old)) if path != old => {
+            let (path, old) = (path.display(), old.display());
+            return Err(format!(
+                "--control-socket {path}: with --take-over it is that of the old daemon, {old}"
+            ));
+        }
+        (Some(path), None) => Some(open(path, directory)?),
+        _ => None,
     };
-    if got != 0 {
-        return Err(io::Error::last_os_error());
-    }
-    Ok(peer.uid)
+    let pid = std::process::id();
+    let may_lose = options.migration_on_error == MigrationOnError::GuestError;
+    let daemon = Daemon { number, pid, metrics, starter, record, may_lose };
+    Control::new(listener, daemon).map_err(|e| format!("a file in memory: {e}"))
 }
 
-/// Connects to the old daemon, which must be the same user's. The connection is no listener, but
-/// the sandbox takes one, and leaves no other process a copy of it.
-pub fn connect(path: &PathBuf) -> Result<Listener, String> {
-    let wrong = |e: &dyn std::fmt::Display| format!("--take-over {}: {e}", path.display());
-    let stream = UnixStream::connect(path).map_err(|e| wrong(&e))?;
-    let user = peer(&stream).map_err(|e| wrong(&e))?;
-    // SAFETY: no memory is touched.
-    if user != unsafe { libc::getuid() } {
-        return Err(wrong(&format!("it is a socket of user {user}")));
-    }
+/// Connects to the old daemon. The connection is no listener, but the sandbox takes one, and leaves
+/// no other process a copy of it. An error is a message.
+pub fn connect(path: &Path) -> Result<Listener, String> {
+    let stream =
+        replace::connect(path).map_err(|e| format!("--take-over {}: {e}", path.display()))?;
     // SAFETY: the descriptor is open, and owned from here on.
     Ok(unsafe { Listener::from_raw_fd(stream.into_raw_fd()) })
 }
@@ -219,6 +151,7 @@ pub fn connect(path: &PathBuf) -> Result<Listener, String> {
 mod tests {
     use super::*;
     use std::os::unix::fs::{symlink, PermissionsExt};
+    use std::path::PathBuf;
 
     fn folder(name: &str) -> PathBuf {
         let path = std::env::temp_dir().join(format!("pitskhomu-{name}-{}", std::process::id()));

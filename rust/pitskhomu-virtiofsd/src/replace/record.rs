@@ -8,13 +8,6 @@ use std::io;
 use std::os::unix::fs::MetadataExt;
 use std::path::Path;
 
-/// The beginning of READY, with the version of the messages.
-const READY: &[u8; 8] = b"PKREADY1";
-/// The length of a record as text, in bytes.
-const LEN: usize = 4;
-/// The greatest length of a record. One with longer options can't take over.
-const MOST: usize = 1 << 16;
-
 /// The name of the line that `Record::wanted` has. No option has it.
 const WANTED: &str = "metrics-socket";
 
@@ -51,8 +44,8 @@ impl Record {
         })
     }
 
-    /// READY with this record.
-    pub fn ready(&self) -> io::Result<Vec<u8>> {
+    /// The record as a text.
+    pub fn text(&self) -> String {
         let (device, number) = self.directory;
         let mut text = format!("{}\n{device} {number}\n", self.version);
         for (name, value) in &self.options {
@@ -61,33 +54,13 @@ impl Record {
         if let Some((device, number)) = self.wanted {
             let _ = writeln!(text, "{WANTED} {device} {number}");
         }
-        let len = u32::try_from(text.len()).ok().filter(|len| *len as usize <= MOST);
-        let len = len.ok_or_else(|| invalid("the options are too long to take over with them"))?;
-        Ok([&READY[..], &len.to_le_bytes(), text.as_bytes()].concat())
+        text
     }
 
-    /// The record of these bytes of READY, or `None` while some are still to come.
-    pub fn of(bytes: &[u8]) -> io::Result<Option<Record>> {
-        let known = bytes.len().min(READY.len());
-        if bytes[..known] != READY[..known] {
-            return Err(invalid("it doesn't begin as this version's READY"));
-        }
-        let Some(len) = bytes.get(READY.len()..READY.len() + LEN) else { return Ok(None) };
-        let len = u32::from_le_bytes([len[0], len[1], len[2], len[3]]) as usize;
-        if len > MOST {
-            return Err(invalid("a record of more bytes than any"));
-        }
-        let text = &bytes[READY.len() + LEN..];
-        match text.len().cmp(&len) {
-            std::cmp::Ordering::Less => Ok(None),
-            std::cmp::Ordering::Equal => Record::parse(text).map(Some),
-            std::cmp::Ordering::Greater => Err(invalid("bytes after a record")),
-        }
-    }
-
-    fn parse(text: &[u8]) -> io::Result<Record> {
+    /// The record of a text.
+    pub fn of(text: &str) -> io::Result<Record> {
         let wrong = || invalid("a record of another form");
-        let mut lines = std::str::from_utf8(text).map_err(|_| wrong())?.lines();
+        let mut lines = text.lines();
         let version = lines.next().ok_or_else(wrong)?.to_owned();
         let directory = lines.next().and_then(|line| line.split_once(' ')).ok_or_else(wrong)?;
         let number = |text: &str| text.parse().map_err(|_| wrong());
@@ -138,37 +111,25 @@ mod tests {
     }
 
     #[test]
-    fn a_record_arrives_byte_by_byte() {
+    fn a_record_is_its_text() {
         let mut sent = record("--xattrmap=:map::user.virtiofs.: --tag=a\n --modcaps=+sys_admin");
         sent.wanted = Some((7, 1 << 40));
-        let bytes = sent.ready().expect("bytes");
-        for len in 0..bytes.len() {
-            assert_eq!(Record::of(&bytes[..len]).expect("a part"), None, "{len}");
-        }
-        assert_eq!(Record::of(&bytes).expect("all").as_ref(), Some(&sent));
-        assert!(Record::of(&[&bytes[..], b"x"].concat()).is_err());
+        assert_eq!(Record::of(&sent.text()).expect("a record"), sent);
     }
 
     #[test]
-    fn bytes_that_are_no_record_are_refused() {
-        let of = |text: &[u8]| {
-            let len = u32::try_from(text.len()).expect("a length").to_le_bytes();
-            Record::of(&[&READY[..], &len, text].concat())
-        };
-        assert!(of(b"0.1.0\n1 2\n").is_ok());
+    fn a_text_that_is_no_record_is_refused() {
+        assert!(Record::of("0.1.0\n1 2\n").is_ok());
         for wrong in [
-            &b""[..],
-            b"0.1.0",
-            b"0.1.0\n12\n",
-            b"0.1.0\na b\n",
-            b"0.1.0\n1 2\nxattr",
-            b"\xff",
-            b"0.1.0\n1 2\nmetrics-socket 1",
+            "",
+            "0.1.0",
+            "0.1.0\n12\n",
+            "0.1.0\na b\n",
+            "0.1.0\n1 2\nxattr",
+            "0.1.0\n1 2\nmetrics-socket 1",
         ] {
-            assert!(of(wrong).is_err(), "{wrong:?}");
+            assert!(Record::of(wrong).is_err(), "{wrong:?}");
         }
-        assert!(Record::of(b"GET / HTTP/1.1").is_err() && Record::of(b"x").is_err());
-        assert!(Record::of(&[&READY[..], &[0xff; 4]].concat()).is_err());
     }
 
     #[test]

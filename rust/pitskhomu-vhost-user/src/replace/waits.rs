@@ -1,6 +1,7 @@
 //! Waits for the front-end's next message and, by the control socket, for daemons that are ready to
 //! take over.
-use super::{Control, Record, PREPARATION};
+use super::control::record_of;
+use super::{Control, PREPARATION};
 use crate::replace::wire::receive;
 use log::{debug, warn};
 use std::io::{self, ErrorKind};
@@ -25,7 +26,7 @@ pub enum Next {
     /// The front-end has sent a message, or left.
     FrontEnd,
     /// A daemon is ready to take over, by this socket.
-    Ready(OwnedFd, Record),
+    Ready(OwnedFd, String),
     /// The state is prepared.
     Prepared,
     /// The daemon that would take over next has left.
@@ -63,7 +64,7 @@ pub struct Waits {
 
 impl Caller {
     /// Reads on: returns the record once it is complete. Only a process of this user may send one.
-    fn read(&mut self, user: u32) -> io::Result<Option<Record>> {
+    fn read(&mut self, user: u32) -> io::Result<Option<String>> {
         loop {
             let mut bytes = [0; 4096];
             let fd = self.socket.as_raw_fd();
@@ -80,7 +81,7 @@ impl Caller {
                 return Err(io::Error::new(ErrorKind::PermissionDenied, user));
             }
             self.bytes.extend_from_slice(&bytes[..received.len]);
-            if let Some(record) = Record::of(&self.bytes)? {
+            if let Some(record) = record_of(&self.bytes)? {
                 return Ok(Some(record));
             }
         }
@@ -155,7 +156,7 @@ impl Waits {
     }
 
     /// A caller has sent something, or left.
-    fn hear(&mut self, source: u64) -> Option<(OwnedFd, Record)> {
+    fn hear(&mut self, source: u64) -> Option<(OwnedFd, String)> {
         #[allow(clippy::cast_sign_loss, reason = "a descriptor isn't negative")]
         let is_it = |caller: &Caller| CALLERS + caller.socket.as_raw_fd() as u64 == source;
         let at = self.callers.iter().position(is_it)?;

@@ -1,10 +1,11 @@
 //! The new daemon: is ready, answers the old one's messages as a front-end's, and takes over.
+use super::control::ready;
 use super::take::Take;
 use super::wire::{receive, send};
-use super::{Control, Own, Record, PATIENCE};
+use super::{Control, Own, PATIENCE};
+use crate::device::ServedFs;
 use crate::front_end::FrontEnd;
 use crate::iommu::messages::{self, Head, HEAD_LEN};
-use crate::serve::ServedFs;
 use log::warn;
 use std::io::{self, IoSliceMut};
 use std::os::fd::{AsRawFd, FromRawFd, OwnedFd, RawFd};
@@ -27,8 +28,8 @@ enum Word {
 
 impl Old {
     /// Says that this daemon is ready to take over.
-    pub fn say_ready(socket: RawFd, record: &Record) -> io::Result<Old> {
-        send(socket, &record.ready()?, &[])?;
+    pub fn say_ready(socket: RawFd, control: &Control) -> io::Result<Old> {
+        send(socket, &ready(&control.process.record())?, &[])?;
         Ok(Old(socket))
     }
 
@@ -44,7 +45,7 @@ impl Old {
         }
         confirm(self.0, offer.life.as_ref())?;
         control.adopt(offer.kept);
-        control.starter.serves();
+        control.process.serves();
         Ok(Some(offer.socket))
     }
 
@@ -103,7 +104,7 @@ impl Old {
             }
         }
         front_end.adopt(take.enabled, take.refused);
-        control.starter.serves(); // the old daemon ends after this
+        control.process.serves(); // the old daemon ends after this
         Ok(())
     }
 }
@@ -113,7 +114,7 @@ struct Offer {
     take: Take,
     /// The front-end's, or the one that a front-end will connect to.
     socket: OwnedFd,
-    /// The control socket, the PID file and the socket of --metrics.
+    /// The control socket, and what the process has lent.
     kept: [Option<OwnedFd>; 3],
     /// The back-end's channel.
     channel: Option<OwnedFd>,

@@ -3,10 +3,10 @@
 use super::successor::Successor;
 use super::take::Take;
 use super::{Control, LAST_PATIENCE, PATIENCE, PATIENCE_BYTES};
+use crate::device::{Core, ServedFs};
 use crate::front_end::{Agreed, FrontEnd};
 use crate::memory::Table;
 use crate::ring::{Handed, Ring};
-use crate::serve::{Core, ServedFs};
 use log::info;
 use std::io::{self, Read, Seek, Write};
 use std::os::fd::{AsRawFd, OwnedFd, RawFd};
@@ -117,7 +117,7 @@ impl<'g, F: ServedFs> Giving<'g, F> {
         let ms = |from: Instant, to: Instant| (to - from).as_secs_f64() * 1e3;
         let (paused, told) = (ms(stops, Instant::now()), ms(begun, stops));
         info!("another daemon serves the guest: {told:.1} ms of messages, {paused:.1} ms of pause");
-        self.control.metrics.leave();
+        self.control.process.leaves();
         self.to.set_end(Instant::now() + LAST_PATIENCE);
         self.to.wait_for_end();
         Ok(())
@@ -227,7 +227,7 @@ impl<'g, F: ServedFs> Giving<'g, F> {
     /// Refuses a state with a node that the new daemon wouldn't find, and drops the nodes that are
     /// gone for good. Only after a try that failed it looks at each file handle.
     fn check_state(&self) -> io::Result<()> {
-        if self.control.may_lose {
+        if !self.control.process.checks_state() {
             return Ok(());
         }
         let (mut pipe, mut state) = (&self.control.pipe, Vec::new());
@@ -282,12 +282,12 @@ fn offer(
     (socket, channel): (RawFd, Option<RawFd>),
     control: &Control,
 ) -> io::Result<()> {
-    let mut fds = vec![socket];
+    let (mut fds, [number, metrics]) = (vec![socket], control.process.lend());
     for (fd, bit) in [
         (control.listener.as_ref().map(AsRawFd::as_raw_fd), Take::CONTROL),
-        (control.number.as_ref().map(AsRawFd::as_raw_fd), Take::NUMBER),
+        (number, Take::NUMBER),
         (channel, Take::CHANNEL),
-        (control.metrics.lend().map(|(fd, _)| fd), Take::METRICS),
+        (metrics, Take::METRICS),
         (control.life.as_ref().map(|(reader, _)| reader.as_raw_fd()), Take::LIFE),
     ] {
         if let Some(fd) = fd {
@@ -306,7 +306,7 @@ pub fn give_listener(listener: RawFd, control: &Control, heir: OwnedFd) -> io::R
     let take = Take { with: Take::LISTENER, ..Take::default() };
     match offer(&mut to, take, (listener, None), control).and_then(|()| to.go()) {
         Ok(()) => {
-            control.metrics.leave();
+            control.process.leaves();
             to.set_end(Instant::now() + LAST_PATIENCE);
             to.wait_for_end();
             Ok(())

@@ -1,9 +1,9 @@
 //! The turns of the front-end's thread: messages of the front-end, and those of daemons that take
 //! over.
 use super::old::{give, give_listener, refuse, Kept};
-use super::{Control, Next, Old, Record, Waits, PAUSE, TRIES};
+use super::{Control, Next, Old, Waits, PAUSE, TRIES};
+use crate::device::ServedFs;
 use crate::front_end::FrontEnd;
-use crate::serve::ServedFs;
 use log::{debug, info, warn};
 use std::io;
 use std::os::fd::{OwnedFd, RawFd};
@@ -86,7 +86,7 @@ impl<'t, F: ServedFs> Turns<'t, F> {
     }
 
     /// A daemon is ready. Returns whether the state is prepared already.
-    fn choose(&mut self, socket: OwnedFd, record: &Record) -> bool {
+    fn choose(&mut self, socket: OwnedFd, record: &str) -> bool {
         let Some(waits) = &mut self.waits else { return false };
         let mut front_end = self.front_end.lock().unwrap_or_else(PoisonError::into_inner);
         let why = match (self.control.refuses(record), front_end.keeps_daemon()) {
