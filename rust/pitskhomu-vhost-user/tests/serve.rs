@@ -32,11 +32,14 @@ fn serve<H: Handler + 'static>(
     (path, thread::spawn(move || builder.serve_by_values(at, handler)))
 }
 
-/// Hands each READ to the test, and counts what is undone.
+/// Hands each READ to the test, and says what is undone. The end of a session is as if one were
+/// undone with a node that it never has.
 struct Later {
     reads: Mutex<Sender<OwnedRequest>>,
     undone: Mutex<Sender<Vec<Undo>>>,
 }
+
+const ENDED: Undo = Undo::Forget(Node(u64::MAX));
 
 impl Handler for Later {
     fn call(&self, request: Request<'_>) {
@@ -52,6 +55,10 @@ impl Handler for Later {
 
     fn cancelled(&self, cancelled: &Cancelled) {
         self.undone.lock().unwrap().send(cancelled.undo.clone()).expect("who listens");
+    }
+
+    fn session_ended(&self) {
+        self.undone.lock().unwrap().send(vec![ENDED]).expect("who listens");
     }
 }
 
@@ -126,6 +133,20 @@ fn after_a_reset_an_answer_is_refused() {
     assert_eq!(undone.recv_timeout(SOON), Ok(vec![]));
     assert!(read.reply.send(b"late".to_vec()).is_err());
     assert_eq!(driver.reply_within(Duration::from_millis(100)), None);
+}
+
+/// RESET_DEVICE ends the session: nobody gets the answer, and the next session is another one.
+#[test]
+fn a_reset_of_the_device_ends_its_session() {
+    let (mut driver, asked, undone) = later("session", 2);
+    driver.send(0, READ, 2, &at(0, 8));
+    let read = asked.recv_timeout(SOON).expect("a read");
+    driver.reset();
+    let mut both = [undone.recv_timeout(SOON), undone.recv_timeout(SOON)];
+    both.sort_by_key(|undone| undone.as_ref().map(Vec::len).unwrap_or(9));
+    assert_eq!(both, [Ok(vec![]), Ok(vec![ENDED])]);
+    assert!(read.reply.send(b"late".to_vec()).is_err());
+    driver.init();
 }
 
 /// A handler that panics, or forgets its reply object, leaves the device as it is.

@@ -1,6 +1,8 @@
 //! A front-end and a driver without a guest: a request queue in a file in memory.
 use std::fs::File;
-use std::os::fd::{AsRawFd, FromRawFd};
+use std::io::{Read as _, Write as _};
+use std::os::fd::{AsRawFd, BorrowedFd, FromRawFd, OwnedFd};
+use std::os::unix::net::UnixStream;
 use std::path::{Path, PathBuf};
 use std::thread;
 use std::time::{Duration, Instant};
@@ -68,6 +70,13 @@ fn memory() -> MmapRegion<()> {
     MmapRegion::from_file(FileOffset::new(file, 0), LEN).expect("memory")
 }
 
+/// Another descriptor of the front-end's socket.
+fn copy(front_end: &Frontend) -> OwnedFd {
+    // SAFETY: the front-end keeps its descriptor open.
+    let socket = unsafe { BorrowedFd::borrow_raw(front_end.as_raw_fd()) };
+    socket.try_clone_to_owned().expect("a descriptor")
+}
+
 fn connect(socket: &Path) -> Frontend {
     let end = Instant::now() + SOON;
     loop {
@@ -97,7 +106,9 @@ impl Driver {
         assert_eq!(front_end.get_features().expect("features") & FEATURES, FEATURES);
         front_end.set_features(FEATURES).expect("features");
         let offered = front_end.get_protocol_features().expect("the protocol's features");
-        let wanted = VhostUserProtocolFeatures::REPLY_ACK | VhostUserProtocolFeatures::CONFIG;
+        let wanted = VhostUserProtocolFeatures::REPLY_ACK
+            | VhostUserProtocolFeatures::CONFIG
+            | VhostUserProtocolFeatures::RESET_DEVICE;
         front_end.set_protocol_features(offered & wanted).expect("the protocol's features");
         let file = self.memory.file_offset().expect("a file").file();
         let region = VhostUserMemoryRegionInfo {
@@ -135,6 +146,21 @@ impl Driver {
         let begun = Instant::now();
         let base = self.front_end.get_vring_base(QUEUE).expect("a base");
         (base as u16, begun.elapsed())
+    }
+
+    /// Resets the device, and starts its queue again. Crate vhost has no such message.
+    pub fn reset(&mut self) {
+        let mut socket = UnixStream::from(copy(&self.front_end));
+        let head = |flags: u64, size: u64| numbers(&[(34, 4), (flags, 4), (size, 4)]);
+        socket.write_all(&head(1 | 8, 0)).expect("a message"); // the version, and NEED_REPLY
+        let mut answer = [0; 20];
+        socket.read_exact(&mut answer).expect("an acknowledgement");
+        assert_eq!(answer[..], [&head(1 | 4, 8)[..], &[0; 8]].concat()[..]);
+        self.stop();
+        self.put(AVAILABLE, &[0; 4]);
+        self.put(USED, &[0; 4]);
+        (self.available, self.used) = (0, 0);
+        self.start(0);
     }
 
     /// The configuration's first bytes.
