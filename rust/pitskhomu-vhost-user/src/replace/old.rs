@@ -1,5 +1,5 @@
-//! The old daemon: gives all to the one that takes over. Whatever fails, it enables its rings again
-//! and continues.
+//! The old daemon: gives all to the one that takes over. If anything fails, it enables its rings
+//! again and continues.
 use super::successor::Successor;
 use super::take::Take;
 use super::{Control, LAST_PATIENCE, PATIENCE, PATIENCE_BYTES};
@@ -42,7 +42,7 @@ struct Giving<'g, F> {
 pub enum Kept {
     /// It may succeed in a moment: this is its socket.
     Now(OwnedFd, String),
-    /// The new daemon is told, or has ended.
+    /// The new daemon has the reason, or has ended.
     ForGood(io::Error),
 }
 
