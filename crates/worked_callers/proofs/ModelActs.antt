@@ -1,6 +1,8 @@
 -- Calls of a handle that holds its queue's lock, as acts of the model.
 use Rattle.std.proofs.Common.{◌≡◌, inl, inr, ℕ, ◌^◌, ◌<◌, Bool, true, List, [], ◌∷◌, ◌++◌, Option, Some, None, refl, subst, sym, ap, ◌∙◌}
-use Rattle.std.specs.Prelude.{◌==◌, IsTrue, if◌then◌else◌, option_map}
+use Rattle.std.specs.Prelude.{◌-◌, ◌==◌, IsTrue, if◌then◌else◌, nat_lt, option_map}
+use Rattle.fs_turns.specs.Worlds.{World}
+use Rattle.fs_turn_calls.specs.Calls.{DropReports, IsWorldOf}
 use Rattle.std.specs.Int.{w16, to_le_bytes}
 use Rattle.fs_regions.specs.Walks.{Loaded}
 use Rattle.fs_queue.specs.Returning.{Store}
@@ -89,6 +91,15 @@ drops_so law st q last counted clear left out s is of walker =
     let d = law q out s counted (subst (λ (t : state.ChainState). give_up_error t q ≡ None) is clear) of walker in
     let last_is : last ≡ gave_up q = left ∙ ap (λ (b : Bool). if b then gave_up q else q) (ap is_out is) in
     (d.0, subst (λ (k : QueueState). IsModelOf k (after_act (ways_of q) s DropsOne)) (sym last_is) d.1)
+
+-- a thread reports the drop
+pub drop_reported : DropReports → (st : state.ChainState) (q last : QueueState) → HasU16Numbers q → give_up_error st q ≡ None
+    → last ≡ (if is_out st then gave_up q else q) → (out : InFlight) (w : World) → st ≡ at.Taken out → IsWorldOf q w
+    → IsTrue (nat_lt 0 w.out) × IsWorldOf last (record w { position = kicks.back w.position 1; out = w.out - 1 })
+drop_reported law st q last counted clear left out w is of =
+    let d = law q out w counted (subst (λ (t : state.ChainState). give_up_error t q ≡ None) is clear) of in
+    let last_is : last ≡ gave_up q = left ∙ ap (λ (b : Bool). if b then gave_up q else q) (ap is_out is) in
+    (d.0, subst (λ (k : QueueState). IsWorldOf k (record w { position = kicks.back w.position 1; out = w.out - 1 })) (sym last_is) d.1)
 
 -- ---- as many as may be
 

@@ -2,7 +2,7 @@
 //! (crate `notify`).
 
 ghost use Rattle.std.specs.Prelude.{◌≡◌, ◌≤◌, ◌<◌, ◌^◌, ℕ, false, IfOk, IsTrue, [], ◌∷◌, None, Some, OnOk};
-ghost use Rattle.std.specs.Prelude.{Err, IfErr, OnErr, option_map};
+ghost use Rattle.std.specs.Prelude.{Bool, Err, IfErr, OnErr, option_map, nat_lt, ◌-◌, true, if◌then◌else◌};
 ghost use Rattle.fs_regions.specs.Places.{places_in};
 ghost use Rattle.fs_regions.specs.Walks.{Loaded};
 ghost use Rattle.fs_chain.specs.Events.{store_of};
@@ -18,10 +18,16 @@ ghost use Rattle.notify.specs.Threads.{ActsOver, Rearmer, DropsOne, Loads, Nobod
 ghost use Rattle.notify.specs.Threads.{TakesOne, ThreadedQueue, Walker, WishIsThere, Wishes, after_act};
 ghost use Rattle.notify.specs.Threads.{may_act};
 ghost use Rattle.fs_notify.specs.Takers.{HasPopped, HasU16Numbers, IsIndex, IsModelOf, MutesBy, ways_of};
+ghost use Rattle.fs_turns.specs.Worlds.{World, done, may_report};
+ghost use Rattle.fs_turns.specs.declared.machine.TurnEvent.TheVariants.{Muted, Popped};
+ghost use Rattle.fs_turns.specs.declared.machine.TurnPhase.TheVariants.{Mutes, Pops};
+ghost use Rattle.fs_turn_calls.specs.Calls.{HasMuted, IsWorldOf};
+ghost use Rattle.notify.specs.Kicks.{back};
 ghost use Rattle.worked_callers.specs.Notified.{ActsTo, IsStoredWish};
 
 use fs_chain::{ChainError, ChainHandle, LoadOutcome, NotificationStore, PopOutcome, QueueState};
 use fs_notify::law_takers;
+use fs_turn_calls::law_turn_calls;
 
 /// The numbers of a queue are of 16 bits.
 pub fn have_u16_numbers(queue: &QueueState)
@@ -42,15 +48,22 @@ pub fn enable_store(queue: &QueueState) -> Option<NotificationStore>
     queue.notification_store(true)
 }
 
-/// The store that disables notifications is the model's. With the event index nothing is stored.
+/// The store that disables notifications is the model's, and what the thread reports with `Muted`. With the
+/// event index nothing is stored.
 pub fn disable_store(queue: &QueueState) -> Option<NotificationStore>
-    ensures { (s : ThreadedQueue)
+    ensures mutes { (s : ThreadedQueue)
         → IsModelOf queue.now s
         → s.holder ≡ Walker
         → MutesBy queue.now s (option_map store_of result)
         × IsTrue (may_act (ways_of queue.now) s (Silences s.event)) }
+    ensures reports { (w : World)
+        → IsWorldOf queue.now w
+        → HasMuted queue.now w (option_map store_of result)
+        × IsTrue (may_report (ways_of queue.now) Mutes w Muted true)
+        × IsWorldOf queue.now (done w Muted true) }
 {
     law_takers();
+    law_turn_calls();
     queue.notification_store(false)
 }
 
@@ -94,7 +107,8 @@ pub fn sleep_if_idle(
     handle.pop(queue, bytes)
 }
 
-/// Goes on with a pop. If it returns a chain, the model's thread loads the index, and takes one.
+/// Goes on with a pop. If it returns a chain, the model's thread loads the index, and takes one. The thread
+/// may report `Popped`, by that index.
 pub fn take_one(
     handle: &mut ChainHandle,
     queue: &mut QueueState,
@@ -121,13 +135,33 @@ pub fn take_one(
         × (let ways = ways_of queue.old in
         ActsTo queue.old s (Loads ∷ TakesOne ∷ []) (after_act ways (after_act ways s Loads) TakesOne)
         queue.new index)) }
+    ensures reports { IfOk result
+        (λ outcome. (reported : PopOutcome) (m : Machine) (i : ℕ) (p : Pop) (w : World) (fresh : Bool)
+        → outcome ≡ LoadOutcome.On reported
+        → HasPopped reported
+        → HoldsPop m.limit p handle.old
+        → IsQueue m i queue.old
+        → m.places ≡ places_in handle.old.regions
+        → IsPopOf queue.old p
+        → m.limit ≤ 2 ^ 31
+        → IsWorldOf queue.old w
+        → (loaded : Loaded)
+        × AddsSo handle.old.state outcome handle.new.descriptors.items p.loaded (whole handle.old bytes.now)
+        loaded
+        × (index : ℕ)
+        × IsIndex loaded index
+        × ((if fresh then w.index else w.known) ≡ index
+        → IsTrue (may_report (ways_of queue.old) Pops w Popped fresh)
+        × IsWorldOf queue.new (done w Popped fresh))) }
 {
     law_takers();
+    law_turn_calls();
     have_u16_numbers(queue);
     handle.pop(queue, bytes)
 }
 
-/// Gives up a chain whose request wasn't decoded: the model's thread drops it.
+/// Gives up a chain whose request wasn't decoded: the model's thread drops it, and the thread may report
+/// `Back`.
 pub fn drop_one(handle: &mut ChainHandle, queue: &mut QueueState) -> Result<(), ChainError>
     ensures error { IfErr result (λ e. give_up_error handle.old.state queue.old ≡ Some e) }
     ensures free { OnOk result (handle.new ≡ freed handle.old) }
@@ -137,8 +171,14 @@ pub fn drop_one(handle: &mut ChainHandle, queue: &mut QueueState) -> Result<(), 
         → s.holder ≡ Walker
         → IsTrue (may_act (ways_of queue.old) s DropsOne)
         × IsModelOf queue.new (after_act (ways_of queue.old) s DropsOne)) }
+    ensures reports { OnOk result ((out : InFlight) (w : World)
+        → handle.old.state ≡ at.Taken out
+        → IsWorldOf queue.old w
+        → IsTrue (nat_lt 0 w.out)
+        × IsWorldOf queue.new (record w { position = back w.position 1; out = w.out - 1 })) }
 {
     law_takers();
+    law_turn_calls();
     have_u16_numbers(queue);
     handle.give_up(queue)
 }

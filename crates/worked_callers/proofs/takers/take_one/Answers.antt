@@ -18,3 +18,19 @@ returns-clause-takes c =
     let takes = takes_so c.law_takers.ensures.takes m i q q' ends.0 new reported counted popped there ends.2 s of walker in
     (ends.0, ends.1, takes.0, takes.1, takes.2))
     c.pop.ensures.step
+
+pub returns-clause-reports : goal.returns-clause-reports
+returns-clause-reports c =
+    let old = c.args.handle.now in
+    let new = c.pop.new.self in
+    let q = c.args.queue.now in
+    let q' = c.pop.new.queue in
+    let runs = c.requires.proceeds in
+    if_ok c.pop.result _ _
+    (λ came pops reported m i p w fresh is popped from there places index small of.
+    let end = popped_ends reported popped in
+    let ends = pop_ends old new q q' c.args.bytes.now came reported m i p runs pops is end from there places index small in
+    let counted = c.have_u16_numbers.ensures in
+    let report = c.law_turn_calls.ensures.popped m i q q' ends.0 new reported w fresh counted popped there ends.2 of in
+    (ends.0, ends.1, report.0, report.1, report.2))
+    c.pop.ensures.step
