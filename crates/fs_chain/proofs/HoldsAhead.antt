@@ -115,8 +115,10 @@ steps_ahead (l ∷ taken) old new q q' reported (w, k, earlier, walks, wants, is
     (next.0, (before.0, before.1, next.1), subst P have.1 next.2)
 
 pub pops_ahead : (ahead : List AheadBytes) (old new : ChainHandle) (q q' : QueueState) (reported : walked.PopOutcome)
-    → PopsAhead ahead old new q q' (outcomes.On reported) → PopsAheadBy old new q q' reported
+    → PopsAhead ahead old new q q' (outcomes.On reported) → PopsAheadBy ahead old new q q' reported
 unfolding PopsAheadBy
-pops_ahead ahead old new q q' reported by = λ s i queue places limit small.
-    let step = steps_ahead (last_first by.first []) old new q q' (outcomes.On reported) by.walks s i queue places limit small in
-    (step.0, step.2)
+pops_ahead ahead old new q q' reported by = (
+  by,
+  λ s i queue places limit small.
+      steps_ahead (last_first by.first []) old new q q' (outcomes.On reported) by.walks s i queue places limit small,
+)

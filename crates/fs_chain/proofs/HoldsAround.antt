@@ -1,27 +1,37 @@
--- Freeing a handle, a store before a sleep, a reset, and another memory, as events of a run.
+-- Freeing a handle, a store before a sleep, a reset, another memory, and another table, as events of a run.
 use Rattle.std.proofs.Common.{◌≡◌, inl, inr, ◌<◌, ◌^◌, ℕ, Bool, List, Option, Some, None, refl, subst, sym, ap, ◌∙◌, option_map}
+use Rattle.std.specs.Prelude.{Result, Ok, Err, OnOk}
 use Rattle.std.specs.List.{AllByRecursion}
 use Rattle.fs_queue.specs.Returning.{Store}
 use Rattle.fs_queue.specs.declared.layout.QueueLayout.{QueueLayout}
-use Rattle.fs_regions.specs.Places.{places_in}
-use Rattle.live_machine.specs.Live.{InFlightChain, KeepsQueue, StoreIsMapped}
+use Rattle.vm_iotlb.specs.declared.range.IotlbRange.{IotlbRange}
+use Rattle.vm_memory.specs.Memory.{Memory}
+use Rattle.fs_regions.specs.Places.{Mapped, places_in}
+use Rattle.live_machine.specs.Live.{Happens, InFlightChain, KeepsQueue, Remaps, StoreIsMapped}
 use Rattle.live_machine.specs.Several.{LiveQueue, avail_event_at}
 use Rattle.live_machine.proofs.Declined.{has_events}
 use Rattle.live_machine.proofs.Queues.{there_same}
 use Rattle.live_machine.proofs.Wishes.{none_stored, wish_by_event, wish_stored}
 use Rattle.fs_chain.specs.Events as events
 use Rattle.fs_chain.specs.Events.{store_of}
-use Rattle.fs_chain.specs.Holds.{live_of}
-use Rattle.fs_chain.specs.HoldsAround.{AbandonsChain, NotificationIs, Resets, SetsMemory, StoresNotice}
+use Rattle.fs_chain.specs.Holds.{HoldsChain, Machine, any_files, live_of}
+use Rattle.fs_chain.specs.HoldsAround.{AbandonsChain, MayRemap, NotificationIs, RemapsTable, Resets, SetsMemory, StoresNotice, remapped}
 use Rattle.fs_chain.specs.Pushes.{IsFreed}
 use Rattle.fs_chain.specs.Queues.{reset_to, set_as}
+use Rattle.fs_chain.specs.Tables.{with_table}
+use Rattle.fs_chain.specs.declared.error.ChainError.{ChainError}
+use Rattle.fs_chain.specs.declared.state.ChainState.TheVariants as at
 use Rattle.fs_chain.specs.declared.chain_handle.ChainHandle.{ChainHandle}
 use Rattle.fs_chain.specs.declared.notifications.NotificationStore.{NotificationStore}
 use Rattle.fs_chain.specs.declared.queue.QueueState.{QueueState}
 
-pub abandons : (old new : ChainHandle) → IsFreed old new → AbandonsChain new
+pub abandons : (old new : ChainHandle) → IsFreed old new → AbandonsChain old new
 unfolding AbandonsChain
-abandons old new freed s before behind c out = (record { before = before; behind = behind; out = out; state = refl }, freed.0.3)
+abandons old new freed s before behind c out = (
+  record { before = before; behind = behind; out = out; state = refl },
+  freed.0.3,
+  λ over. (over.0 ∙ ap places_in (sym freed.0.0.0), over.1 ∙ sym freed.0.0.1),
+)
 
 -- ---- a store before a sleep
 
@@ -61,11 +71,36 @@ resets old new layout position is small s i set there some few =
       there_same s.queues i i (λ _. w) (live_of old) refl there,
     )
 
-pub sets_memory : (new : ChainHandle) → SetsMemory new
-unfolding SetsMemory
-sets_memory new s keeps =
-    let all : AllByRecursion (KeepsQueue s (places_in new.regions)) s.chains =
+remaps : (s : Machine) (m : Memory) → MayRemap s m → Happens any_files s (Remaps m) (remapped s m)
+remaps s m keeps =
+    let all : AllByRecursion (KeepsQueue s m) s.chains =
     elim keeps [
-      | inl none ↦ subst (λ (cs : List InFlightChain). AllByRecursion (KeepsQueue s (places_in new.regions)) cs) (sym none) tt
+      | inl none ↦ subst (λ (cs : List InFlightChain). AllByRecursion (KeepsQueue s m) cs) (sym none) tt
       | inr preserved ↦ preserved
     ] in record { keeps = all; state = refl }
+
+sets_free : (new : ChainHandle) (regions : Mapped) (limit : ℕ) → new.regions ≡ regions → new.limit ≡ limit → new.state ≡ at.Free →
+    SetsMemory new regions limit
+unfolding SetsMemory
+sets_free new regions limit regions_are limit_is free s keeps = (
+  remaps s (places_in regions) keeps,
+  free,
+  λ is. (ap places_in (sym regions_are), is ∙ sym limit_is),
+)
+
+pub sets_memory : (old new : ChainHandle) (regions : Mapped) (limit : ℕ) (result : Result (Unit {0}) ChainError) → old.state ≡ at.Free
+    → OnOk result ((new.regions ≡ regions) × (new.limit ≡ limit) × (new.state ≡ old.state) × (new.part ≡ old.part)
+    × (new.session ≡ old.session) × (new.serial ≡ old.serial) × (new.list_len ≡ old.list_len))
+    → OnOk result (SetsMemory new regions limit)
+sets_memory old new regions limit (Ok done) free set = sets_free new regions limit set.0 set.1 (set.2 ∙ free)
+sets_memory old new regions limit (Err e) free set = tt
+
+-- ---- another table
+
+pub remaps_table : (old new : ChainHandle) (table : Option (List IotlbRange)) → new ≡ with_table old table → RemapsTable old new table
+unfolding RemapsTable
+remaps_table old new table is s keeps = (
+  remaps s (places_in (with_table old table).regions) keeps,
+  λ limit. (ap (λ (w : ChainHandle). places_in w.regions) (sym is), limit ∙ ap (λ (w : ChainHandle). w.limit) (sym is)),
+  λ c held. subst (λ (w : ChainHandle). HoldsChain s.page_size c w) (sym is) held,
+)

@@ -24,3 +24,5 @@ pub mod Steps
 pub mod Together
 pub mod Filling
 pub mod Moves
+pub mod Tickets
+pub mod Ending

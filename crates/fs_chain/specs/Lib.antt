@@ -2,6 +2,7 @@ pub mod Ahead
 pub mod AheadSteps
 pub mod Answers
 pub mod Decoding
+pub mod Ending
 pub mod Events
 pub mod Held
 pub mod Holds

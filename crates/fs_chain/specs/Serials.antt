@@ -1,7 +1,7 @@
--- The number by which an answer names its call. Of 2^32 successive chains of the handle, no two have
--- the same number.
-use Rattle.std.specs.Prelude.{◌≡◌, ◌⊎◌, ℕ, ◌+◌, ◌%◌, ◌^◌, not, ◌==◌, Option, Some, None, Result, Err}
-use Rattle.std.specs.Prelude.{if◌then◌else◌}
+-- The number by which an answer names its call (its ticket). Of 2^32 successive chains of the handle, no two
+-- have the same number.
+use Rattle.std.specs.Prelude.{◌≡◌, ◌⊎◌, ◌<◌, ℕ, ◌+◌, ◌%◌, ◌^◌, not, ◌==◌, true, List, [], ◌∷◌, slice_get}
+use Rattle.std.specs.Prelude.{Option, Some, None, Result, Err, if◌then◌else◌}
 use Rattle.fs_chain.specs.declared.error.ChainError.{ChainError}
 use Rattle.fs_chain.specs.declared.error.ChainError.TheVariants.{OtherCall, WrongOrder}
 use Rattle.fs_chain.specs.declared.state.ChainState as state
@@ -16,6 +16,26 @@ next_serial w = if is_out w.state then (w.serial + 1) % 2 ^ 32 else w.serial
 -- the handle is free, its next chain has the next number, and no list has entries
 abbrev pub freed : ChainHandle → ChainHandle
 freed w = record w { state = at.Free; serial = next_serial w; list_len = 0 }
+
+-- a handle at moments at which successive chains of it were in flight: each chain has the number that the
+-- handle got as the chain before it ended
+abbrev pub AreSuccessive : List ChainHandle → Type 0
+AreSuccessive [] = Unit {0}
+AreSuccessive (w ∷ []) = is_out w.state ≡ true
+AreSuccessive (w ∷ v ∷ ws) = (is_out w.state ≡ true) × (v.serial ≡ next_serial w) × AreSuccessive (v ∷ ws)
+
+-- of 2^32 successive chains no two have the same number, of 32 bits
+abbrev pub TicketsDiffer : Type 0
+TicketsDiffer =
+    (w : ChainHandle) (ws : List ChainHandle) (i j : ℕ) (one other : ChainHandle) →
+    AreSuccessive (w ∷ ws) →
+    w.serial < 2 ^ 32 →
+    i < j →
+    j < i + 2 ^ 32 →
+    slice_get (w ∷ ws) i ≡ Some one →
+    slice_get (w ∷ ws) j ≡ Some other →
+    one.serial ≡ other.serial →
+    ⊥
 
 -- why an answer's number is refused: it isn't the chain's number
 abbrev pub number_error : (mine serial : ℕ) → Option ChainError

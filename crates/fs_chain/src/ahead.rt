@@ -145,7 +145,8 @@ impl ChainHandle {
         ensures same { OnErr result ((self.new ≡ self.old) × (queue.new ≡ queue.old)) }
         ensures pops { IfOk result (λ reported. PopsAhead (loads_ahead ahead.now bytes.now) self.old self.new
             queue.old queue.new (proceeds.On reported)) }
-        ensures step { IfOk result (PopsAheadBy self.old self.new queue.old queue.new) }
+        ensures step { IfOk result (PopsAheadBy (loads_ahead ahead.now bytes.now) self.old self.new queue.old
+            queue.new) }
     {
         match &self.state {
             ChainState::Free => {

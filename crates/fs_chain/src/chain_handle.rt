@@ -66,7 +66,6 @@ impl ChainHandle {
     /// Sets the memory of the next pops, and the greatest length of a request and of a reply buffer, in
     /// bytes. `ChainInFlight` unless the handle is free; `BadArgument` for a limit below 0x101000 or above
     /// 2^31.
-    #[tactic(auto, using(crate::proofs::HoldsAround::sets_memory))]
     pub fn set_memory(&mut self, regions: GuestMap, limit: u32) -> Result<(), ChainError>
         ensures error { IfErr result (λ e. memory_error self.old.state limit ≡ Some e) }
         ensures ok { OnOk result (memory_error self.old.state limit ≡ None) }
@@ -78,7 +77,7 @@ impl ChainHandle {
             × (self.new.session ≡ self.old.session)
             × (self.new.serial ≡ self.old.serial)
             × (self.new.list_len ≡ self.old.list_len)) }
-        ensures step { OnOk result (SetsMemory self.new) }
+        ensures step { OnOk result (SetsMemory self.new regions limit) }
     {
         match self.state {
             ChainState::Free => self.take_memory(regions, limit),

@@ -68,7 +68,7 @@ impl ChainHandle {
     #[tactic(auto, using(crate::proofs::HoldsAround::abandons))]
     pub fn abandon(&mut self)
         ensures free { IsFreed self.old self.new }
-        ensures step { AbandonsChain self.new }
+        ensures step { AbandonsChain self.old self.new }
     {
         self.free();
         self.part.clear();

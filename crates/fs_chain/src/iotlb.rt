@@ -1,8 +1,9 @@
 //! An IOMMU's table, which the caller lends to a handle, and the addresses that it lacks.
 
-ghost use Rattle.std.specs.Prelude.{◌≡◌, All, Some, length, slice_get, true, false};
+ghost use Rattle.std.specs.Prelude.{◌≡◌, All, OnOk, Some, length, slice_get, true, false};
 ghost use Rattle.fs_regions.specs.Places.{places_in};
 ghost use Rattle.fs_regions.specs.Using.{IsUntouched};
+ghost use Rattle.fs_chain.specs.HoldsAround.{RemapsTable};
 ghost use Rattle.fs_chain.specs.Orders.{is_out};
 ghost use Rattle.fs_chain.specs.Tables.{ExchangesTable, ExchangesWith, is_walking, miss_at};
 
@@ -27,8 +28,10 @@ impl ChainHandle {
     ///
     /// Once a handle had a table, its addresses are I/O addresses until its memory is set again. While the
     /// table is taken away, none of them is mapped.
+    #[tactic(auto, using(crate::proofs::HoldsAround::remaps_table))]
     pub fn exchange_table(&mut self, table: Option<Iotlb>) -> Result<Option<Iotlb>, Option<Iotlb>>
-        ensures { ExchangesTable self.old self.new table result }
+        ensures exchanged { ExchangesTable self.old self.new table result }
+        ensures step { OnOk result (RemapsTable self.old self.new table) }
     {
         if self.is_walking() {
             return Err(table);
@@ -37,8 +40,10 @@ impl ChainHandle {
     }
 
     /// Exchanges the IOMMU's table with that of a place. `ChainInFlight` while a pop is under way.
+    #[tactic(auto, using(crate::proofs::HoldsAround::remaps_table))]
     pub fn exchange_with(&mut self, place: &mut IotlbPlace) -> Result<(), ChainError>
-        ensures { ExchangesWith self.old self.new place.old place.new result }
+        ensures exchanged { ExchangesWith self.old self.new place.old place.new result }
+        ensures step { OnOk result (RemapsTable self.old self.new place.old.table) }
     {
         if self.is_walking() {
             return Err(ChainError::ChainInFlight);

@@ -6,6 +6,7 @@ ghost use Rattle.fs_chain.specs.HoldsListings.{BeginsListing, GathersDecoded, Le
 ghost use Rattle.fs_chain.specs.HoldsListings.{LooksUp, ReadsDirectory};
 ghost use Rattle.fs_chain.specs.Laws.{WalksAreOffers};
 ghost use Rattle.fs_chain.specs.Moves.{HandleMovesDevice};
+ghost use Rattle.fs_chain.specs.Serials.{TicketsDiffer};
 ghost use Rattle.fs_chain.specs.Together.{FindsOwn, JoinsOthers, KeepsOthers, LeavesOthers};
 
 use fs_regions::laws::law_offers;
@@ -37,6 +38,12 @@ pub fn law_held()
     ensures count { LoadsCount }
     ensures mapped { AskedIsMapped }
     ensures unreplied { HeldIsUnreplied }
+{}
+
+/// The number with which an answer names its chain (`ChainHandle::serial`). Of 2^32 successive chains of a
+/// handle no two have the same one, as long as the caller chooses none (`number_from`).
+pub fn law_tickets()
+    ensures { TicketsDiffer }
 {}
 
 /// A handle that decoded a request for a listing gathers it, and holds its chain until the end. Each file

@@ -3,6 +3,7 @@
 ghost use Rattle.std.specs.Prelude.{◌≡◌, ◌⊎◌, ◌<◌, ◌≤◌, ◌+◌, ◌++◌, [], Some, None, true, false, length, take};
 ghost use Rattle.std.specs.Prelude.{IfOk, IfErr, IfSome, OnOk, OnErr, vec_capacity};
 ghost use Rattle.memory_requests.specs.Refused.{RoomWasRefused};
+ghost use Rattle.fs_chain.specs.Ending.{EndsSoon};
 ghost use Rattle.fs_chain.specs.Holds.{PopsBy};
 ghost use Rattle.fs_chain.specs.Loads.{AreDue, AreOthers, AreWanted, AreWhole, ProceedsSo, HasNoPlace};
 ghost use Rattle.fs_chain.specs.Loads.{IsLoadWindow, IsSame, RefusesWalk, came, due_len, whole};
@@ -192,7 +193,8 @@ impl ChainHandle {
 
     /// Pops the next chain of a queue: first without bytes, then with the bytes of each load that it asks
     /// for. The caller gives a load whole, even if it crosses the end of a region or of a mapping, or in
-    /// parts. A part is the window that is still needed (`still_wanted`), until the pop goes on.
+    /// parts. A part is the window that is still needed (`still_wanted`), until the pop goes on. It ends
+    /// after at most size + 4 loads, whatever they find.
     ///
     /// After an error nothing changed:
     /// - `WrongOrder`: a chain is in flight.
@@ -201,7 +203,7 @@ impl ChainHandle {
     /// - `ChainInFlight`: the queue has as many chains in flight as it may.
     /// - `OutOfMemory`: no room for the descriptors of the entries that are asked for, or for a part of a
     ///   load.
-    #[tactic(auto, using(crate::proofs::HoldsPopped::pops_from))]
+    #[tactic(auto, using(crate::proofs::HoldsPopped::pops_from, crate::proofs::Ending::ends_soon))]
     pub fn pop(&mut self, queue: &mut QueueState, loaded: &[u8]) -> Result<LoadOutcome, ChainError>
         ensures proceeds { IfOk result (λ outcome. ProceedsSo self.old queue.old loaded.now outcome self.new
             queue.new) }
@@ -209,6 +211,7 @@ impl ChainHandle {
         ensures same { OnErr result (IsSame self.old self.new × (queue.new ≡ queue.old)) }
         ensures step { IfOk result
             (λ outcome. PopsBy self.old.state self.old self.new queue.old queue.new loaded.now outcome) }
+        ensures few { IfOk result (EndsSoon self.old.state self.new queue.old.layout.size) }
     {
         if self.load_len() != 0 {
             return self.give_part(queue, loaded);

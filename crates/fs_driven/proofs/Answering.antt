@@ -1,6 +1,6 @@
 -- An answer drives the run.
 use Rattle.std.proofs.Common.{◌≡◌, ℕ, true, List, [], ◌∷◌, ◌++◌, length, Option, Some, None, slice_get, refl, subst, sym, ap}
-use Rattle.std.proofs.Common.{inl, ◌∙◌}
+use Rattle.std.proofs.Common.{inl, ◌∙◌, ◌==◌, eq-eqb}
 use Rattle.std.specs.Prelude.{Result, Ok, Err, IfErr, IfOk, OnOk, OnErr}
 use Rattle.fs_chain.specs.declared.error.ChainError.{ChainError}
 use Rattle.fs_chain.specs.Walks.{IsAllBut}
@@ -23,6 +23,7 @@ use Rattle.fs_driven.specs.Reported.{Reports, DrivesOne, Unseen, data_of, forget
 use Rattle.fs_driven.specs.Preserved.{KeepsMemory}
 use Rattle.fs_chain.specs.Holds.{Answers, ForgettingIs, HoldsChain, served_so, IsHeldIn, Machine, Pop, any_files, live_of}
 use Rattle.fs_chain.specs.Orders.{is_out}
+use Rattle.fs_chain.specs.Serials.{number_error, serial_error}
 use Rattle.fs_chain.specs.Together.{Owned, with_handle}
 use Rattle.fs_chain.specs.declared.answering.Replied.{Replied}
 use Rattle.fs_chain.specs.declared.chain_handle.ChainHandle.{ChainHandle}
@@ -48,6 +49,14 @@ waits_asked page_size c (Asked request options calls) (at.Waits out w) session i
     (request, options, ap (λ (l : Calls). Asked request options l) held.1)
 waits_asked page_size c _ (at.Waits out w) session is held = absurd held
 waits_asked page_size c p _ session is held = absurd is
+
+-- its number is the chain's
+number_named : (mine serial : ℕ) → mine ≡ serial → number_error mine serial ≡ None
+number_named mine serial same = let is : (mine == serial) ≡ true = eq-eqb mine serial same in rw is refl
+
+waits_named : (st : state.ChainState) (mine serial : ℕ) → IsWaiting st → mine ≡ serial → serial_error st mine serial ≡ None
+waits_named (at.Waits out w) mine serial is same = number_named mine serial same
+waits_named _ mine serial is same = absurd is
 
 waits_out : (st : state.ChainState) → IsWaiting st → is_out st ≡ true
 waits_out (at.Waits out w) is = refl
@@ -161,10 +170,10 @@ KeepsAnswered old new =
 
 answer_drives : (page_size : ℕ) (old new : ChainHandle) (q : QueueState) (serial : ℕ)
     (a : made_answer.FileAnswer) (reported : Replied)
-    → IsWaiting old.state → GivenSo old new a reported → Answers old new a reported → KeepsAnswered old new
+    → IsWaiting old.state → old.serial ≡ serial → GivenSo old new a reported → Answers old new a reported → KeepsAnswered old new
     → DrivesAt page_size old new q q (does.Answer serial a) (gives.Answered (Ok reported))
 unfolding Answers
-answer_drives page_size old new q serial a reported waits given answers kept ws k there u s i os pops push all =
+answer_drives page_size old new q serial a reported waits mine given answers kept ws k there u s i os pops push all =
     let has = has_own s i page_size q ws os k old pops push all there (all.outs old there (waits_out old.state waits)) in
     let c = has.c in
     let asked = waits_asked s.page_size c c.phase old.state old.session waits has.holds in
@@ -181,13 +190,26 @@ answer_drives page_size old new q serial a reported waits given answers kept ws 
     (length (addresses_of (writable c.descriptors))) ((an.0, answer_of bytes a) ∷ [])).reply bytes new.state
     an.1.4)
     an.1.2 an.1.5
-    (λ after os' loads'. (given, (kept.0, refl), kept.1, c, an.0, asked.0, asked.1, has.is_in, asked.2, refl))
+    (λ after os' loads'. (
+      waits_named old.state old.serial serial waits mine,
+      given,
+      (kept.0, refl),
+      kept.1,
+      c,
+      an.0,
+      asked.0,
+      asked.1,
+      has.is_in,
+      asked.2,
+      refl,
+    ))
 
 -- ---- by what the call ensures
 
 pub answer_result : (old new : ChainHandle) (q : QueueState) (serial : ℕ) (a : made_answer.FileAnswer)
     (result : Result Replied ChainError)
     → IfOk result (λ reported. GivenSo old new a reported)
+    → OnOk result (old.serial ≡ serial)
     → OnOk result (IsWaiting old.state × IfWaits old.state (λ out w. CanBeGiven w a))
     → IfErr result (λ e. IsNotTaken old serial a e)
     → OnErr result (new ≡ old)
@@ -195,8 +217,8 @@ pub answer_result : (old new : ChainHandle) (q : QueueState) (serial : ℕ) (a :
     → IsAllBut old new × (new.descriptors ≡ old.descriptors) × (new.part ≡ old.part)
     → IfOk result (λ reported. Answers old new a reported)
     → (page_size : ℕ) → DrivesOne page_size old new q q (does.Answer serial a) (gives.Answered result)
-answer_result old new q serial a (Ok reported) given taken err same page stay step page_size =
-    drives_one _ _ (answer_drives page_size old new q serial a reported taken.0 given step (stay, page))
-answer_result old new q serial a (Err e) given taken err same page stay step page_size =
+answer_result old new q serial a (Ok reported) given mine taken err same page stay step page_size =
+    drives_one _ _ (answer_drives page_size old new q serial a reported taken.0 mine given step (stay, page))
+answer_result old new q serial a (Err e) given mine taken err same page stay step page_size =
     refuses page_size old new q (does.Answer serial a) (gives.Answered (Err e)) (same_held old new same)
     (λ i k d d' u pop. (refl, (same_all old new same, refl, pop), err))

@@ -14,7 +14,7 @@ use Rattle.server_meanings.specs.Serving.{Setting, setting}
 use Rattle.server_phases.specs.declared.session.Session.{Session}
 use Rattle.live_machine.specs.Live.{DecodesRequest, Fetched, InFlightChain, LiveEvent, LiveRun, Phase, SetsOptions, after_decoding}
 use Rattle.live_machine.specs.Live.{asked_chain, Happens, room_of_phase, serving}
-use Rattle.fs_chain.specs.Decoding.{IfUndecoded, ReportsMeaning, wanted_after, wanted_by}
+use Rattle.fs_chain.specs.Decoding.{IfUndecoded, ReportStandsIn, ReportsMeaning, wanted_after, wanted_by}
 use Rattle.fs_driven.specs.Desks.{Begun, Desk, FitsRun, In, IsReady, own, with_pop}
 use Rattle.fs_driven.specs.Reported.{DrivesOne, Reports, Unseen, asked_len_of, exactly, request_of, setting_of, transition}
 use Rattle.fs_driven.specs.Preserved.{KeepsMemory}
@@ -238,24 +238,26 @@ decode_reports : (s : Machine) (i : Spot) (page_size k : ℕ) (q : QueueState) (
     → In (own k c) os → wanted_by reported ≡ wanted_after front.now (asked_len_of old.state)
     → IfUndecoded old.state
     (ReportsRequest session (request_of front.now u (asked_len_of old.state)) reported new)
+    → ReportStandsIn session.options.0 front.now reported
     → KeepsAsked session old new
     → DecodingReports s i q ws' k push c (request_of front.now u (asked_len_of old.state)) session.options.0 reported
     (λ es d. Reports (transition i.number page_size k (desk_before s i ws os pops) d old new q q) (does.Decode session front) u
     (gives.Decoded (Ok reported)) es)
-decode_reports s i page_size k q ws ws' os pops push old new c session front u (asks.More n) mine wanted means kept =
-    λ after loads'. (wanted, means, (kept.0, refl), kept.1, refl)
-decode_reports s i page_size k q ws ws' os pops push old new c session front u _ mine wanted means kept =
-    λ after os' loads' is. (wanted, means, (kept.0, refl), kept.1, (c, mine, refl, is))
+decode_reports s i page_size k q ws ws' os pops push old new c session front u (asks.More n) mine wanted means places kept =
+    λ after loads'. (wanted, places, means, (kept.0, refl), kept.1, refl)
+decode_reports s i page_size k q ws ws' os pops push old new c session front u _ mine wanted means places kept =
+    λ after os' loads' is. (wanted, places, means, (kept.0, refl), kept.1, (c, mine, refl, is))
 
 decode_taken : (old new : ChainHandle) (q : QueueState) (session : Session) (front : Bor (List ℕ))
     (reported : Decoded) (out : InFlight) → old.state ≡ at.Taken out → length front.now ≤ out.request_len
     → ReportsWhole session front.now reported new out
     → wanted_by reported ≡ wanted_after front.now out.request_len
+    → ReportStandsIn session.options.0 front.now reported
     → KeepsAsked session old new
     → Decodes old new session front.now reported
     → DrivesAt session.page_size old new q q (does.Decode session front) (gives.Decoded (Ok reported))
 unfolding Decodes
-decode_taken old new q session front reported out is fits means wanted kept decodes ws k there u s i os pops push
+decode_taken old new q session front reported out is fits means wanted places kept decodes ws k there u s i os pops push
     all =
     let has = has_own s i session.page_size q ws os k old pops push all there (all.outs old there (ap is_out is)) in
     let c = has.c in
@@ -283,18 +285,19 @@ decode_taken old new q session front reported out is fits means wanted kept deco
     (does.Decode session front) u (gives.Decoded (Ok reported)) es)
     has.driven there has.mine.0 o.0 (kept.0.0.0, kept.0.0.1) (all.fits old there) d has.chains so
     (decode_reports s i session.page_size k q ws (with_handle ws k new) os pops push old new c session front u
-    reported has.is_in wanted_if so_if kept)
+    reported has.is_in wanted_if so_if places kept)
 
 decode_at : (old new : ChainHandle) (q : QueueState) (session : Session) (front : Bor (List ℕ))
     (reported : Decoded) (st : state.ChainState) → old.state ≡ st → DecodesAt st (length front.now)
     → IfUndecoded st (ReportsWhole session front.now reported new)
     → IfUndecoded st (λ out. wanted_by reported ≡ wanted_after front.now out.request_len)
+    → ReportStandsIn session.options.0 front.now reported
     → KeepsAsked session old new
     → Decodes old new session front.now reported
     → DrivesOne session.page_size old new q q (does.Decode session front) (gives.Decoded (Ok reported))
-decode_at old new q session front reported (at.Taken out) is fits means wanted same decodes =
-    drives_one _ _ (decode_taken old new q session front reported out is fits means wanted same decodes)
-decode_at old new q session front reported _ is fits means wanted same decodes = absurd fits
+decode_at old new q session front reported (at.Taken out) is fits means wanted places same decodes =
+    drives_one _ _ (decode_taken old new q session front reported out is fits means wanted places same decodes)
+decode_at old new q session front reported _ is fits means wanted places same decodes = absurd fits
 
 -- ---- by what the call ensures
 
@@ -310,6 +313,7 @@ pub decode_result : (old new : ChainHandle) (q : QueueState) (session : Session)
     → IfErr result (λ e. ask_error old.state (length front.now) ≡ Some e)
     → OnOk result (ask_error old.state (length front.now) ≡ None)
     → IfOk result (λ reported. IfUndecoded old.state (ReportsWhole session front.now reported new))
+    → IfOk result (ReportStandsIn session.options.0 front.now)
     → IfOk result
     (λ reported. IfUndecoded old.state (λ out. wanted_by reported ≡ wanted_after front.now out.request_len))
     → IsAllBut old new × (new.descriptors ≡ old.descriptors) × (new.part ≡ old.part)
@@ -318,11 +322,11 @@ pub decode_result : (old new : ChainHandle) (q : QueueState) (session : Session)
     → IfOk result (λ reported. Decodes old new session front.now reported)
     → (page_size : ℕ) → session.page_size ≡ page_size
     → DrivesOne page_size old new q q (does.Decode session front) (gives.Decoded result)
-decode_result old new q session front (Ok reported) err ok reports wanted same stay kept step page_size page =
+decode_result old new q session front (Ok reported) err ok reports places wanted same stay kept step page_size page =
     subst (λ (n : ℕ). DrivesOne n old new q q (does.Decode session front) (gives.Decoded (Ok reported))) page
     (decode_at old new q session front reported old.state refl (may_decode old.state (length front.now) ok) reports
-    wanted (same, kept) step)
-decode_result old new q session front (Err e) err ok reports wanted same stay kept step page_size page =
+    wanted places (same, kept) step)
+decode_result old new q session front (Err e) err ok reports places wanted same stay kept step page_size page =
     refuses page_size old new q (does.Decode session front) (gives.Decoded (Err e))
     (stay.0, stay.1, same.0.0, same.0.1, items_same old new same.1)
     (λ i k d d' u pop. (refl, ((same.0, stay.0, items_same old new same.1, part_same old new same.2, stay.1), refl, pop), err))

@@ -8,9 +8,9 @@ use Rattle.server_phases.specs.declared.listing.ListingReply.{ListingReply}
 use Rattle.server_meanings.specs.Listings.{readdir_call}
 use Rattle.live_machine.specs.Live.{InFlightChain}
 use Rattle.fs_chain.specs.Holds.{Machine, Pop}
-use Rattle.fs_chain.specs.Listings.{RepliesBy}
+use Rattle.fs_chain.specs.Listings.{EndsByEntries, EndsByError, RepliesBy}
 use Rattle.fs_chain.specs.Orders.{is_listing, is_out}
-use Rattle.fs_chain.specs.Serials.{UnlessRefused, serial_error}
+use Rattle.fs_chain.specs.Serials.{UnlessRefused, number_error, serial_error}
 use Rattle.fs_chain.specs.Together.{Owned, with_handle}
 use Rattle.fs_chain.specs.ListingCalls.{listing_calls}
 use Rattle.fs_chain.specs.declared.chain_handle.ChainHandle.{ChainHandle}
@@ -36,7 +36,7 @@ use Rattle.fs_driven.proofs.Spots.{DrivenAt, LeadsAt, Spot, desk_before, drives_
 use Rattle.fs_driven.proofs.Calls.{no_error, refuses, same_held}
 use Rattle.fs_driven.proofs.ListingCalls.{came_to_end}
 use Rattle.fs_driven.proofs.Handles.{has_own, not_free}
-use Rattle.fs_driven.proofs.Listings.{WasListing, begun_listing, no_push, not_err, was_listing}
+use Rattle.fs_driven.proofs.Listings.{WasListing, accepted, begun_listing, no_push, not_err, was_listing}
 
 -- ---- what was a listing
 
@@ -55,6 +55,22 @@ ended_listing None old new serial len ends =
     ends_well _ (serial_error old.state old.serial serial) (new ≡ old) old.state new.state len ends.0
 ended_listing (Some errno) old new serial len ends =
     ends_well _ (serial_error old.state old.serial serial) (new ≡ old) old.state new.state len ends.0
+
+-- its number is the listing's
+ended_named : (errno : Option ℕ) (old new : ChainHandle) (serial len : ℕ) → EndsSo errno old new serial (Ok len)
+    → serial_error old.state old.serial serial ≡ None
+ended_named None old new serial len ends =
+    accepted (serial_error old.state old.serial serial) (new ≡ old) (EndsByEntries old.state new.state (Ok len)) len ends.0
+ended_named (Some errno) old new serial len ends =
+    accepted (serial_error old.state old.serial serial) (new ≡ old) (EndsByError errno old.state new.state (Ok len)) len ends.0
+
+-- two listings of one number
+same_named : (st st' : state.ChainState) (mine mine' serial : ℕ) → WasListing st → WasListing st' → mine' ≡ mine
+    → serial_error st' mine' serial ≡ None → serial_error st mine serial ≡ None
+same_named st st' mine mine' serial (out, l, is) (out', l', is') same named =
+    let later : number_error mine' serial ≡ None = subst (λ (x : state.ChainState). serial_error x mine' serial ≡ None) is' named in
+    subst (λ (x : state.ChainState). serial_error x mine serial ≡ None) (sym is)
+    (subst (λ (n : ℕ). number_error n serial ≡ None) same later)
 
 -- a listing with this number can be ended
 not_refused : (P : Listing → ListingReply → Type 0) (old new : ChainHandle) (serial : ℕ) (e : ChainError)
@@ -146,6 +162,8 @@ gathered_drives page_size old mid new q serial before list entries names failure
     (no_push new.state h.out r.listed.preserved r.listed.state) r.listed.none_pending
     r.run.2 refl refl refl refl r.run.3
     (λ after' os' pops'. (
+      same_named old.state mid.state old.serial mid.serial serial was mid_was all_in.stays.0.2
+          (ended_named (errno_after reported failure) mid new serial len ends),
       all_in.few,
       of_last s.page_size c (take n (all_brought entries names)) left list reported mid came,
       stays,

@@ -20,3 +20,5 @@ pub mod Remaps
 pub mod Resets
 pub mod Rest
 pub mod Spots
+pub mod Served
+pub mod DriverServed

@@ -1,5 +1,6 @@
 -- The end of a listing without entries drives the run: the reading of its directory is answered.
-use Rattle.std.proofs.Common.{◌≡◌, ◌≤◌, ℕ, Bool, true, false, List, [], ◌∷◌, Option, Some, arith, refl, subst, sym, ap, lt-ltb, slice_get}
+use Rattle.std.proofs.Common.{inl, inr, ◌≡◌, ◌≤◌, ℕ, Bool, true, false, List, [], ◌∷◌, Option, Some, None, arith, refl, subst, sym, ap}
+use Rattle.std.proofs.Common.{lt-ltb, slice_get}
 use Rattle.std.specs.Prelude.{IsTrue, Result, Ok, Err, IfOk, OnOk, OnErr, nat_lt, ◌&&◌}
 use Rattle.fuse_fs.specs.Calls.{Entries, Failed, FileAnswer, FileCall, suits}
 use Rattle.plain_machine.specs.Step.{Calls}
@@ -43,6 +44,11 @@ not_err n e is = cc
 -- only a listing has one
 abbrev pub WasListing : state.ChainState → Type 0
 WasListing st = (out : InFlight) × (l : Listing) × (st ≡ at.Lists out l)
+
+-- a call that wasn't refused has the chain's number
+pub accepted : (why : Option ChainError) (Same Does : Type 0) (len : ℕ) → UnlessRefused {A = ℕ} why (Ok len) Same Does → why ≡ None
+accepted why Same Does len (inl refused) = absurd (not_err len refused.0 refused.2)
+accepted why Same Does len (inr is) = is.0
 
 pub was_listing : (P : Listing → ListingReply → Type 0) (st new : state.ChainState) (len : ℕ) → RepliesBy P st new (Ok len) →
     WasListing st
@@ -93,6 +99,7 @@ begun_listing n page_size k q push c w out l list is ready holds =
 
 listing_drives : (page_size : ℕ) (old new : ChainHandle) (q : QueueState) (serial : ℕ) (answer : FileAnswer)
     (P : Result ℕ ChainError → Type 0) (len : ℕ)
+    → serial_error old.state old.serial serial ≡ None
     → WasListing old.state → IsAllButPlace old new
     → ((page_size : ℕ) (c : InFlightChain) (h : HoldsListing page_size c [] [] [] old) →
     IsTrue (suits (readdir_call h.asked) answer))
@@ -102,7 +109,7 @@ listing_drives : (page_size : ℕ) (old new : ChainHandle) (q : QueueState) (ser
     → DrivenAt s i page_size k q ws os pops push
     → LeadsAt s i page_size k pops q (with_handle ws k new)
     (λ es d. ReportsListing (transition i.number page_size k (desk_before s i ws os pops) d old new q q) serial answer P (Ok len) es)
-listing_drives page_size old new q serial answer P len was same suited listed reported ws k there s i os pops push
+listing_drives page_size old new q serial answer P len named was same suited listed reported ws k there s i os pops push
     all =
     let has = has_own s i page_size q ws os k old pops push all there (all.outs old there (ap is_out was.2)) in
     let c = has.c in
@@ -118,7 +125,7 @@ listing_drives page_size old new q serial answer P len was same suited listed re
     (λ es d. ReportsListing (transition i.number page_size k (desk_before s i ws os pops) d old new q q) serial answer P (Ok len) es)
     has.driven there has.mine.0 (same.0.0, same.0.1) r.holds (no_push new.state h.out r.preserved r.state) r.none_pending
     (after, reads.0, refl) refl refl refl refl refl
-    (λ after' os' pops'. (c, call, h.request, h.options, has.is_in, h.phase, refl, same, refl, reported))
+    (λ after' os' pops'. (named, c, call, h.request, h.options, has.is_in, h.phase, refl, same, refl, reported))
 
 -- ---- by what each call ensures
 
@@ -142,6 +149,7 @@ pub ended : (old new : ChainHandle) (q : QueueState) (serial : ℕ) (result : Re
 unfolding EndsListing at_calls
 ended old new q serial (Ok len) reported ends same stays step page_size = drives_one _ _ (λ ws k there u s i os pops push all.
     listing_drives page_size old new q serial (Entries []) (λ r. EndsByEntries old.state new.state r) len
+    (accepted (serial_error old.state old.serial serial) (new ≡ old) (EndsByEntries old.state new.state (Ok len)) len reported)
     (was_listing _ old.state new.state len ends) stays
     (λ page c h. refl)
     (λ page c h. step page (asked_chain c h.request h.options (read_calls (readdir_call h.asked) (Entries []))) []
@@ -184,6 +192,7 @@ unfolding FailsListing at_calls
 failed old new q serial errno (Ok len) low high reported ends same stays step page_size =
     drives_one _ _ (λ ws k there u s i os pops push all.
     listing_drives page_size old new q serial (Failed errno) (λ r. EndsByError errno old.state new.state r) len
+    (accepted (serial_error old.state old.serial serial) (new ≡ old) (EndsByError errno old.state new.state (Ok len)) len reported)
     (was_listing _ old.state new.state len ends) stays
     (λ page c h. errno_suits errno low high)
     (λ page c h. step page (asked_chain c h.request h.options (read_calls (readdir_call h.asked) (Failed errno))) []

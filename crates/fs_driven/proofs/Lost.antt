@@ -123,7 +123,7 @@ with_lost : (ob oh : List Owned) (k : ℕ) (c c' : InFlightChain) (j : ℕ) (r :
 with_lost ob oh k c c' j r counts same =
     subst (λ (n : ℕ). HasInFlight (live_of r) n) (number_other j ob oh (own k c) (lost c') same) counts
 
-drops : (old new : ChainHandle) (q : QueueState) → IsFreed old new → AbandonsChain new
+drops : (old new : ChainHandle) (q : QueueState) → IsFreed old new → AbandonsChain old new
     → (page_size : ℕ) → DrivesAt page_size old new q q does.Abandon gives.Abandoned
 unfolding AbandonsChain
 drops old new q freed abandons page_size ws k there u s i os pops push all = by_out (is_out old.state) refl
@@ -192,6 +192,6 @@ drops old new q freed abandons page_size ws k there u s i os pops push all = by_
           ),
         )
 
-pub abandoned : (old new : ChainHandle) (q : QueueState) → IsFreed old new → AbandonsChain new
+pub abandoned : (old new : ChainHandle) (q : QueueState) → IsFreed old new → AbandonsChain old new
     → (page_size : ℕ) → DrivesOne page_size old new q q does.Abandon gives.Abandoned
 abandoned old new q freed abandons page_size = drives_one _ _ (drops old new q freed abandons page_size)

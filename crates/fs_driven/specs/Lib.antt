@@ -6,3 +6,4 @@ pub mod Moving
 pub mod NewMemory
 pub mod Preserved
 pub mod Reported
+pub mod Served

@@ -27,7 +27,7 @@ use Rattle.live_machine.specs.Live.{StoresNotification, asked_chain}
 use Rattle.fs_chain.specs.Ahead.{PopsAhead, ahead_error}
 use Rattle.fs_chain.specs.AheadSteps.{AddsAhead}
 use Rattle.fs_chain.specs.Answers.{IfWaits, IsGiven, IsNotTaken}
-use Rattle.fs_chain.specs.Decoding.{IfUndecoded, ReportsMeaning, wanted_after, wanted_by}
+use Rattle.fs_chain.specs.Decoding.{IfUndecoded, ReportStandsIn, ReportsMeaning, wanted_after, wanted_by}
 use Rattle.fs_driven.specs.Desks.{Begun, Desk, Driven, In, KeepsPush, Leads, LeadsBy, LeadsTo, desk, lost}
 use Rattle.fs_driven.specs.Desks.{own, with_pop, with_push, with_queue}
 use Rattle.fs_chain.specs.Holds.{Machine, Pop, calls_decoded, live_of, served_so}
@@ -229,6 +229,7 @@ ReportsDecode t session front u (Err e) es =
 ReportsDecode t session front u (Ok reported) es =
     let request = request_of front u (asked_len_of t.was.state) in
     (wanted_by reported ≡ wanted_after front (asked_len_of t.was.state))
+    × ReportStandsIn session.options.0 front reported
     × IfUndecoded t.was.state (λ out. ReportsMeaning
     (setting session.page_size session.options.0 out.room_len)
     (meaning session.options.0 request out.room_len) (drop 80 request) out reported t.now.state)
@@ -247,7 +248,8 @@ ReportsAnswer t serial answer u (Err e) es =
     (es ≡ []) × ChangesNothing t × IsNotTaken t.was serial answer e
 ReportsAnswer t serial answer u (Ok reported) es =
     let given = answer_of (data_of answer u) answer in
-    IfWaits t.was.state (λ out waiting.
+    (serial_error t.was.state t.was.serial serial ≡ None)
+    × IfWaits t.was.state (λ out waiting.
     IsGiven (setting t.was.session.page_size t.was.session.options.0 waiting.room) waiting answer out
     t.now.session.options.0 reported t.now.state)
     × ChangesSession t
@@ -288,7 +290,8 @@ ReportsListing t serial answer Replies (Err e) es =
     × UnlessRefused {A = ℕ} (serial_error t.was.state t.was.serial serial) (Err e) (t.now ≡ t.was)
     (Replies (Err e))
 ReportsListing t serial answer Replies (Ok len) es =
-    (c : InFlightChain)
+    (serial_error t.was.state t.was.serial serial ≡ None)
+    × (c : InFlightChain)
     × (call : FileCall)
     × (request : List ℕ)
     × (options : ℕ)
@@ -321,7 +324,8 @@ GatherReports t serial entries names failure added last (Err e) list es =
     × RefusesEntries t.was t.now serial list entries names failure last e
 GatherReports t serial entries names failure added last (Ok len) list es =
     let left = drop added (all_brought entries names) in
-    (added ≤ length entries)
+    (serial_error t.was.state t.was.serial serial ≡ None)
+    × (added ≤ length entries)
     × IsOfLast last left
     × IsAllButPlace t.was t.now
     × (t.after ≡ t.before)

@@ -2,11 +2,13 @@
 //! and the run's events have what the calls returned.
 #![tactic(auto)]
 
+pub mod both_served;
 mod commands;
 mod entries;
 pub mod laws;
 pub mod new_handles;
 mod new_memory;
+pub mod tickets;
 pub mod two_chains;
 
 pub use commands::{

@@ -18,7 +18,9 @@ use vm_memory_core::Permissions;
 #[repr(C)]
 #[derive(Clone, Copy, Debug)]
 pub struct LoadAhead {
-    /// Its place: the number of the block, and the offset there, added.
+    /// Where it was made: the number of the region plus the offset in the region, modulo 2^64. That is the
+    /// host address, if each region's number is its host address. Other numbers must lie at least a region's
+    /// size apart; else one `at` can mean places in two regions, and a pop doesn't know them apart.
     pub at: usize,
     /// How many bytes it has.
     pub len: usize,

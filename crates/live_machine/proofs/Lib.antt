@@ -8,6 +8,7 @@ pub mod GuestRun
 pub mod InitBesideRun
 pub mod Loads
 pub mod MappedLoads
+pub mod Meant
 pub mod Moved
 pub mod Offered
 pub mod Options

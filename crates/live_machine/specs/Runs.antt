@@ -14,7 +14,7 @@ use Rattle.fs_regions.specs.declared.step.CourseStep.TheVariants as step
 use Rattle.fuse_fs.specs.Calls.{FileRun}
 use Rattle.server_meanings.specs.Serving.{May}
 use Rattle.plain_machine.specs.MarkedPages.{Marks, returned_addresses}
-use Rattle.plain_machine.specs.Step.{State, Exchange, Exchanged}
+use Rattle.plain_machine.specs.Step.{State, Exchange, Exchanged, calls_alone}
 use Rattle.fs_regions.specs.Walks.{IsLost, OffersBy, RingIsAsked}
 use Rattle.plain_machine.specs.StepBy.{Act, StepLoads, StepBy, ReturnsBy, after_stores, return_acts}
 use Rattle.plain_machine.specs.StepBy.{return_stores, stores_among}
@@ -37,6 +37,22 @@ CallsAreARun {F} may =
     (s after : LiveState F) (es : List LiveEvent) →
     LiveRun may s es after →
     FileRun may s.files (calls_among es) after.files
+
+-- the answered calls of a chain in this phase are the first of those that its request means, by their answers
+abbrev pub AreMeant : (page_size : ℕ) → InFlightChain → Phase → Type 0
+AreMeant page_size c (Asked request options calls) =
+    let given = serving page_size options options request (room_of c) calls in
+    calls_alone calls ≡ take (length calls) given.calls
+AreMeant page_size c _ = Unit {0}
+
+-- so it is at each moment of a run that starts without chains in flight, whether a chain is pushed later or
+-- not: its handle may be freed, its queue reset, or its caller may reply with bytes of its own
+abbrev pub EachCallIsMeant : {F : Type 0} → May F → Type 0
+EachCallIsMeant {F} may =
+    (s now : LiveState F) (es : List LiveEvent) →
+    s.chains ≡ [] →
+    LiveRun may s es now →
+    AllByRecursion (λ c. AreMeant now.page_size c c.phase) now.chains
 
 -- ---- each chain by itself
 

@@ -8,9 +8,9 @@ ghost use Rattle.live_machine.specs.InitBeside.{InitBeside};
 ghost use Rattle.live_machine.specs.Overlap.{Overlap};
 ghost use Rattle.live_machine.specs.Rewritten.{Rewritten};
 ghost use Rattle.live_machine.specs.Rounds.{BeginsWithAllMarked, EndsWithWholeCopy, RoundsLoseNothing};
-ghost use Rattle.live_machine.specs.Runs.{CallsAreARun, LiveUsedInOrder, MovedContinues, OncePerLiveChain};
-ghost use Rattle.live_machine.specs.Runs.{OwnIsReturned, PagesAreReported, ReturnedIsStepBy};
-ghost use Rattle.live_machine.specs.Runs.{ReturnsAreMapped};
+ghost use Rattle.live_machine.specs.Runs.{CallsAreARun, EachCallIsMeant, LiveUsedInOrder, MovedContinues};
+ghost use Rattle.live_machine.specs.Runs.{OncePerLiveChain, OwnIsReturned, PagesAreReported};
+ghost use Rattle.live_machine.specs.Runs.{ReturnedIsStepBy, ReturnsAreMapped};
 ghost use Rattle.live_machine.specs.Runs.{ReturnsReport, RunsOnQueue, PositionsAgree, StoresStayThere};
 ghost use Rattle.live_machine.specs.Serial.{SingleIsStep, SerialIsKick};
 ghost use Rattle.live_machine.specs.Several.{ByEvent, KeepsOrder, OncePerChain, OneAtATime, UsedInOrder};
@@ -33,7 +33,8 @@ pub fn law_queues()
 
 /// The theorems on a run of several chains. The guest may write meanwhile, chains may be given up or
 /// abandoned, and the memory may get other mappings.
-/// - The calls are a run of the file system.
+/// - The calls are a run of the file system. Those of a chain are the first that its request means, also if
+///   the chain isn't returned.
 /// - Each returned chain is by itself the plain machine's step by its loads. A chain with its caller's own
 ///   bytes is stored as a step's reply is.
 /// - Stores stay where they may be, and those of a return are mapped. The pages that an event reports are
@@ -43,6 +44,7 @@ pub fn law_queues()
 /// - A device that moves then goes on as one that didn't.
 pub fn law_runs<F: FileSystem, G: FileSystem>()
     ensures calls { CallsAreARun F.may }
+    ensures meant { EachCallIsMeant F.may }
     ensures step { ReturnedIsStepBy F.may G.may }
     ensures own { OwnIsReturned G F.may }
     ensures stores { StoresStayThere F.may }

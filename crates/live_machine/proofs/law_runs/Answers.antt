@@ -1,6 +1,7 @@
 use Rattle.live_machine.proofs.Calls.{calls_are_a_run}
 use Rattle.live_machine.proofs.Alone.{own_is_returned, returned_is_step_by}
 use Rattle.live_machine.proofs.GuestRun.{pages_of_run}
+use Rattle.live_machine.proofs.Meant.{each_call_is_meant}
 use Rattle.live_machine.proofs.Moved.{moved_carries_on, stands_even}
 use Rattle.live_machine.proofs.Pages.{pages_are_reported, returns_tell}
 use Rattle.live_machine.proofs.Placed.{returns_have_places}
@@ -10,6 +11,9 @@ use Rattle.live_machine.proofs.law_runs.Goals as goal
 
 pub returns-clause-calls : goal.returns-clause-calls
 returns-clause-calls g c = calls_are_a_run _
+
+pub returns-clause-meant : goal.returns-clause-meant
+returns-clause-meant g c = each_call_is_meant _
 
 pub returns-clause-step : goal.returns-clause-step
 returns-clause-step g c = returned_is_step_by _ _

@@ -6,5 +6,5 @@ returns c =
     let e = c.decode.ensures in
     record {
       step = decode_result c.args.handle.now c.decode.new.self c.args.queue.now c.args.session c.args.request c.decode.result
-          e.error e.ok e.reports e.wanted e.same e.stays e.session e.step;
+          e.error e.ok e.reports e.places e.wanted e.same e.stays e.session e.step;
     }
