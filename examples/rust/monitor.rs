@@ -10,7 +10,6 @@ use std::ffi::CString;
 use std::sync::{Mutex, MutexGuard};
 use std::time::Duration;
 
-const O_TRUNC: u32 = 0o1000;
 const FILES: usize = 8;
 const CONTENTS: u64 = 0x4000;
 const NAME_MOST: usize = 255;
@@ -207,7 +206,7 @@ impl FileSystem for Files {
     }
 
     fn open(&self, _context: &Context, node: Node, open: Open) -> Answer<Opened> {
-        self.with(node, |file| if open.flags & O_TRUNC != 0 { file.set_size(0) } else { Ok(()) })?;
+        self.with(node, |file| if open.truncates() { file.set_size(0) } else { Ok(()) })?;
         Ok(Opened::default())
     }
 

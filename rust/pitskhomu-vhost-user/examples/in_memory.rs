@@ -39,7 +39,12 @@ fn call(bytes: &mut Vec<u8>, operation: Operation<'_>) -> Answer<Response> {
             }
             (attributes(node, bytes.len()), KEPT).into()
         }
-        Operation::Open { .. } | Operation::Opendir { .. } => Opened::default().into(),
+        Operation::Open { open, .. } => {
+            let len = if open.truncates() { 0 } else { bytes.len() };
+            bytes.truncate(len);
+            Opened::default().into()
+        }
+        Operation::Opendir { .. } => Opened::default().into(),
         Operation::Read { read, mut data, .. } => {
             data.put(&bytes[bytes.len().min(read.offset.min(MOST) as usize)..]);
             data.into()
@@ -79,7 +84,9 @@ pub fn serve(socket: PathBuf) -> Result<(), Error> {
     let handler = move |request: Request<'_>| {
         if let Operation::Read { .. } = request.operation {
             // If a step fails, the reply object is dropped, and the guest gets EIO.
-            let _ = request.into_owned().map(|request| jobs.lock().unwrap().send(request));
+            if let Ok(request) = request.into_owned() {
+                let _ = jobs.lock().unwrap().send(request);
+            }
         } else {
             let _ = request.reply.answer(call(&mut file.lock().unwrap(), request.operation));
         }

@@ -125,6 +125,7 @@ pub struct Numbers {
 
 impl Numbers {
     /// Those of a daemon without threads.
+    #[allow(clippy::new_without_default, reason = "it takes some milliseconds")]
     pub fn new() -> Numbers {
         Numbers { threads: Mutex::default(), tick: tick() }
     }

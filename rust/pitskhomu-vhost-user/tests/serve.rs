@@ -4,7 +4,7 @@ mod driver;
 #[path = "../examples/in_memory.rs"]
 mod in_memory;
 
-use driver::{init, numbers, socket, Driver, INIT, LOOKUP, READ, SOON, WRITE};
+use driver::{init, numbers, socket, Driver, INIT, LOOKUP, OPEN, READ, SOON, WRITE};
 use pitskhomu::live::Handler;
 use pitskhomu::prelude::*;
 use pitskhomu::{Cancelled, Undo};
@@ -87,6 +87,8 @@ fn the_example_has_a_file_that_is_read_and_written() {
     assert_eq!(driver.ask(WRITE, 2, &write), (0, vec![5, 0, 0, 0, 0, 0, 0, 0]));
     assert_eq!(driver.ask(READ, 2, &at(5, 8)), (0, b", world!".to_vec()));
     assert_eq!(driver.ask(READ, 2, &at(1 << 40, 8)), (0, vec![]));
+    let truncating = driver.ask(OPEN, 2, &numbers(&[(0o1001, 4), (0, 4)])); // O_WRONLY | O_TRUNC
+    assert_eq!((truncating.0, driver.ask(READ, 2, &at(0, 100))), (0, (0, vec![])));
     assert_eq!(driver.ask(WRITE, 2, &[&at(1 << 20, 1)[..], b"x"].concat()).0, -libc::EFBIG);
     drop(driver);
     served.join().expect("a device").expect("no error");

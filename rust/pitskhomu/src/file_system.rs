@@ -189,8 +189,8 @@ pub trait FileSystem {
         Err(Errno::ENOSYS)
     }
 
-    /// OPEN: opens a file. The guest passes the returned handle with READ and other calls, until
-    /// RELEASE.
+    /// OPEN: opens a file, and makes it empty if [`Open::truncates`]. The guest passes the returned
+    /// handle with READ and other calls, until RELEASE.
     fn open(&self, context: &Context, node: Node, open: Open) -> Answer<Opened> {
         Ok(Opened::default())
     }

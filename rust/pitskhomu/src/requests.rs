@@ -29,6 +29,9 @@ pub struct MakeDirectory {
     pub umask: u32,
 }
 
+/// Of fcntl.h of Linux x86.
+const O_TRUNC: u32 = 0o1000;
+
 /// The arguments of OPEN (struct `fuse_open_in`).
 #[derive(Clone, Copy, Debug, Default, PartialEq, Eq)]
 #[non_exhaustive]
@@ -38,6 +41,26 @@ pub struct Open {
     /// `FUSE_OPEN_KILL_SUIDGID`: clear set-user and set-group bits (with `O_TRUNC`;
     /// `Options::HANDLE_KILLPRIV_V2`).
     pub kill_priv: bool,
+}
+
+impl Open {
+    /// Whether the file system makes the file empty (`O_TRUNC`). Linux sends no SETATTR for that.
+    ///
+    /// # Examples
+    /// ```
+    /// # use pitskhomu::*;
+    /// /// OPEN of a file with these bytes.
+    /// fn open(bytes: &mut Vec<u8>, open: Open) -> Answer<Opened> {
+    ///     if open.truncates() {
+    ///         bytes.clear();
+    ///     }
+    ///     Ok(Opened::default())
+    /// }
+    /// ```
+    #[must_use]
+    pub const fn truncates(&self) -> bool {
+        self.flags & O_TRUNC != 0
+    }
 }
 
 /// The arguments of CREATE (struct `fuse_create_in`).

@@ -59,6 +59,7 @@ impl<'t, F: ServedFs> Turns<'t, F> {
     }
 
     /// Waits for the next turn.
+    #[allow(clippy::should_implement_trait, reason = "it has no end as an iterator has")]
     pub fn next(&mut self) -> io::Result<Turn> {
         if let Some(old) = self.old {
             if !old.next(&mut self.front_end(), &mut self.control)? {

@@ -108,6 +108,7 @@ impl Waits {
     }
 
     /// Waits for the next event.
+    #[allow(clippy::should_implement_trait, reason = "it has no end as an iterator has")]
     pub fn next(&mut self) -> io::Result<Next> {
         loop {
             let left = match &self.chosen {

@@ -40,6 +40,7 @@ pub struct Patience {
 
 impl Patience {
     /// For a message that came now.
+    #[allow(clippy::new_without_default, reason = "it has the time of the call")]
     pub fn new() -> Patience {
         Patience { begun: Instant::now() }
     }

@@ -31,6 +31,7 @@ pub const SOON: Duration = Duration::from_secs(20);
 
 /// The number of FUSE's opcodes (linux/fuse.h).
 pub const LOOKUP: u32 = 1;
+pub const OPEN: u32 = 14;
 pub const READ: u32 = 15;
 pub const WRITE: u32 = 16;
 pub const INIT: u32 = 26;
