@@ -15,7 +15,7 @@ pub enum Undo {
     /// The file was opened.
     Release(Node, Release),
     /// The directory was opened; its node, its handle, and the flags of OPENDIR.
-    ReleaseDirectory(Node, Handle, u32),
+    Releasedir(Node, Handle, u32),
 }
 
 /// A call whose chain was abandoned, because its queue was reset or its worker dropped, or whose
@@ -39,7 +39,7 @@ impl Cancelled {
                 Undo::Release(node, release) => {
                     let _ = file_system.release(&self.context, node, release);
                 }
-                Undo::ReleaseDirectory(node, handle, flags) => {
+                Undo::Releasedir(node, handle, flags) => {
                     let _ = file_system.releasedir(&self.context, node, handle, flags);
                 }
             }
@@ -76,7 +76,7 @@ impl Asked {
         if let Some(handle) = given.handle {
             let release = Release { handle, flags: self.flags, ..Release::default() };
             undo.push(match (self.kind, given.entry) {
-                (kind::OPENDIR, _) => Undo::ReleaseDirectory(self.node, handle, self.flags),
+                (kind::OPENDIR, _) => Undo::Releasedir(self.node, handle, self.flags),
                 (_, Some(made)) => Undo::Release(made, release),
                 _ => Undo::Release(self.node, release),
             });

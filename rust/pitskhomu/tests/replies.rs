@@ -143,7 +143,7 @@ fn late() -> Vec<(u32, Bytes, Response, Vec<Undo>)> {
     let open = args().d(0x8002).d(0);
     let create = args().d(0x8002).d(0o100_600).d(0).d(0).bytes(HELLO);
     let (node, of) = (entry().node, Node(5));
-    let directory = Undo::ReleaseDirectory(of, opened().handle, 0x8002);
+    let directory = Undo::Releasedir(of, opened().handle, 0x8002);
     vec![
         (LOOKUP, args().bytes(HELLO), entry().into(), vec![Undo::Forget(node)]),
         (LOOKUP, args().bytes(HELLO), Entry::default().into(), vec![]),

@@ -21,7 +21,7 @@ fn givers() -> Vec<(u32, Bytes, u32, Vec<Undo>)> {
         (1, args().bytes(HELLO), 144, vec![Undo::Forget(node)]),
         (9, args().d(0o755).d(0).bytes(HELLO), 144, vec![Undo::Forget(node)]),
         (14, open.clone(), 32, vec![Undo::Release(Node(5), release)]),
-        (27, open, 32, vec![Undo::ReleaseDirectory(Node(5), handle, 0x8002)]),
+        (27, open, 32, vec![Undo::Releasedir(Node(5), handle, 0x8002)]),
         (
             35,
             args().d(0x8002).d(0o100_600).d(0).d(0).bytes(HELLO),
@@ -50,7 +50,7 @@ fn calls_of(undo: &[Undo]) -> Vec<String> {
     let of = |undo: &Undo| match undo {
         Undo::Forget(node) => format!("forget ({node:?}, 1)"),
         Undo::Release(node, release) => format!("release ({node:?}, {release:?})"),
-        Undo::ReleaseDirectory(node, handle, flags) => {
+        Undo::Releasedir(node, handle, flags) => {
             format!("releasedir ({node:?}, {handle:?}, {flags})")
         }
         other => panic!("{other:?}"),

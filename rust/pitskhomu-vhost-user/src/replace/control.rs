@@ -176,7 +176,8 @@ pub fn bind(path: &Path) -> io::Result<UnixListener> {
         }
         fs::remove_file(path)?;
     }
-    // SAFETY: no memory is touched, and no other thread runs yet.
+    // A file that another thread makes meanwhile is its owner's, too.
+    // SAFETY: no memory is touched.
     let umask = unsafe { libc::umask(0o177) };
     let listener = UnixListener::bind(path);
     // SAFETY: as above.

@@ -133,7 +133,7 @@ pub fn undone(undo: &[Undo]) -> Undone {
     let of = |undo: &Undo| match undo {
         Undo::Forget(node) => (0, node.0, 0),
         Undo::Release(node, release) => (1, node.0, release.handle.0),
-        Undo::ReleaseDirectory(node, handle, _) => (2, node.0, handle.0),
+        Undo::Releasedir(node, handle, _) => (2, node.0, handle.0),
         other => panic!("{other:?}"),
     };
     undo.iter().map(of).collect()
