@@ -225,6 +225,20 @@ static void at_each_step(struct replaced *r, enum action action, unsigned steps,
     if (longest > 3000) die("a guest waits for %.0f ms", longest);
 }
 
+/* New daemons that leave when the state is prepared, again and again, while the guest renames
+ * files: each time the state is prepared once more. */
+void given_up(struct replaced *r, int count) {
+    stream_begin(&r->stream, r->front, SLOTS, false);
+    for (int k = 0; k < count; k++) {
+        if (run(r, 3, CUT, NULL) != OLD_SERVES) die("it is replaced");
+        check_messages(r);
+    }
+    double gap = stream_gap(&r->stream);
+    stream_end(&r->stream);
+    if (!replace_soon(r)) die("it isn't replaced after that");
+    printf("%d times given up, longest gap %.0f ms\n", count, gap);
+}
+
 void try_between(struct replaced *r, const char *server, const char *dir,
                  const char *const *options, unsigned stride) {
     unsigned steps = 0, served = 0, count = 0;

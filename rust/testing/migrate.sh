@@ -49,10 +49,11 @@ milliseconds() { tr -d '\r' < "$1/said" 2> "$work/none" | sed -n "s/^$2: \([0-9]
 # A server and a QEMU in a folder of their own, the next stop of a journey: sets `next` and its kin.
 # With a word more the guest comes there by the folder's `stream`.
 begin_stop() {
-    local incoming=()
+    local incoming=() control=()
     next_kind=$1 next=$journey/$((++stops))
     mkdir -p "$next"
-    start_server "$1" "$next/socket" "$next/server" "${words[@]}" || return 1
+    [ -z "${REPLACES:-}" ] || control=(--control-socket="$next/control")
+    start_server "$1" "$next/socket" "$next/server" "${words[@]}" "${control[@]}" || return 1
     next_server=$server
     [ $# = 1 ] || incoming=(-incoming "unix:$next/stream")
     qemu "$next" "$scenario ${kernel:-}" "$next/socket" -m 256M -no-reboot -device "$(device)" \
@@ -103,6 +104,11 @@ hop() {
         [ ! -S "$next/stream" ] || break
         sleep 0.1
     done
+    if [ -n "${REPLACES:-}" ]; then
+        server=$here_server
+        replace_server "$here/control" "$here/server" "${words[@]}"
+        here_server=$server
+    fi
     # A busy host takes long to come to an end.
     say "$source" 'migrate_set_parameter downtime-limit 5000' "migrate unix:$next/stream"
     if is_gone "$source"; then arrive; else stay; fi

@@ -135,6 +135,14 @@ bool replace(struct replaced *r, const char *const *more) {
     die("the new daemon neither serves nor ends");
 }
 
+bool replace_soon(struct replaced *r) {
+    for (int k = 0; k < 3; k++) {
+        if (replace(r, NULL)) return true;
+        show_log(r);
+    }
+    return false;
+}
+
 void check_messages(struct replaced *r) {
     struct front *front = r->front;
     uint64_t word = 1;
@@ -223,6 +231,8 @@ int main(int argc, char **argv) {
         gone(&r, words && strstr(words, "--inode-file-handles=mandatory"), by_handles);
     else if (!strcmp(part, "logged"))
         logged(&r);
+    else if (!strcmp(part, "given-up"))
+        given_up(&r, count);
     else if (!strcmp(part, "between"))
         try_between(&r, argv[1], argv[2], options, argc > 4 ? (unsigned)count : 1);
     else

@@ -32,6 +32,9 @@ int wait_for(pid_t pid, int milliseconds);
  * the program. */
 bool replace(struct replaced *r, const char *const *more);
 
+/* The same where nothing may refuse it but a busy machine: tries it three times. */
+bool replace_soon(struct replaced *r);
+
 /* Whether the log of the last new daemon has these words. */
 bool log_has(const struct replaced *r, const char *words);
 void show_log(const struct replaced *r);
@@ -53,5 +56,6 @@ void logged(struct replaced *r);
 /* Between two daemons: each is killed, and each message is held, cut and changed (between.c). */
 void try_between(struct replaced *r, const char *server, const char *dir,
                  const char *const *options, unsigned stride);
+void given_up(struct replaced *r, int count);
 
 #endif

@@ -156,7 +156,7 @@ void liars(struct replaced *r, int count) {
         for (size_t at = 0; at < 10; at++) say(fd, "PKREADY1\x10\0" + at, 1), pause_ms(1);
         close(fd); /* in the middle */
     }
-    if (!replace(r, NULL)) die("strangers keep a daemon from taking over");
+    if (!replace_soon(r)) die("strangers keep a daemon from taking over");
     for (size_t k = 0; k < 12; k++) close(silent[k]);
     /* another user may not connect */
     pid_t other = fork();
@@ -202,7 +202,7 @@ void held(struct replaced *r) {
     if (!front_wait(r->front, 2, 20000)) die("the held call isn't answered");
     front_read(r->front, 2, &reply);
     if (reply.error) die("the held call: %s", strerror(reply.error));
-    if (!replace(r, NULL)) die("it isn't replaced afterwards");
+    if (!replace_soon(r)) die("it isn't replaced afterwards");
     close(lease);
     printf("a held call, refused once\n");
 }
@@ -224,15 +224,16 @@ void gone(struct replaced *r, bool has_handles, bool moves_handles) {
     uint64_t node = look_up(r->front, 1, "gone");
     if (fd < 0 || close(fd) || unlink(path)) die("no file: %s", strerror(errno));
     if (error_of(r, node) != (has_handles ? ESTALE : 0)) die("a removed file, before");
-    bool is_replaced = replace(r, NULL);
-    if (is_replaced != (has_handles || moves_handles)) show_log(r), die("it is replaced, or not");
+    bool is_movable = has_handles || moves_handles;
+    bool is_replaced = is_movable ? replace_soon(r) : replace(r, NULL);
+    if (is_replaced != is_movable) die("it is replaced, or not");
     if (!is_replaced && !log_has(r, "1 files that the guest holds have no path any more"))
         show_log(r), die("not the reason");
     if (error_of(r, node) != (has_handles ? EBADF : 0)) die("a removed file, after");
     struct fuse_forget_in once = {.nlookup = 1};
     front_send(r->front, 1, FUSE_FORGET, node, &once, sizeof once, 0);
     if (!front_wait(r->front, 1, 20000)) die("FORGET doesn't come back");
-    if (!replace(r, NULL)) show_log(r), die("it isn't replaced after FORGET");
+    if (!replace_soon(r)) die("it isn't replaced after FORGET");
     if (error_of(r, node) != EBADF) die("a node that is forgotten");
     look_up(r->front, 1, "node-0");
     printf("a removed file: %s\n", is_replaced ? "replaced" : "refused until it was forgotten");
@@ -269,7 +270,7 @@ void logged(struct replaced *r) {
     pthread_mutex_unlock(&line);
     must_mark(r, log);
     for (int k = 0; k < 5; k++) {
-        if (!replace(r, NULL)) show_log(r), die("a migrating guest's daemon isn't replaced");
+        if (!replace_soon(r)) die("a migrating guest's daemon isn't replaced");
         must_mark(r, log);
     }
     const char *more[] = {"--readonly", NULL};
@@ -285,7 +286,7 @@ void logged(struct replaced *r) {
     if (!log_has(r, "a state is being saved or loaded")) show_log(r), die("not the reason");
     if (front_number(r->front, CHECK_DEVICE_STATE)) die("the state isn't saved");
     if (lseek(state, 0, SEEK_END) < 100) die("the state is short");
-    if (!replace(r, NULL)) show_log(r), die("it isn't replaced after that, with its rings stopped");
+    if (!replace_soon(r)) die("it isn't replaced after that, with its rings stopped");
     for (size_t ring = 0; ring < RINGS; ring++)
         start_ring(ring, r->front->rings[ring].offered);
     look_up(r->front, 1, "node-0");

@@ -54,6 +54,10 @@ pub trait ServedFs: Send + Sync + 'static {
     /// Prepares the state while the guest runs, until it is prepared or that is cancelled.
     fn prepare_state(&self, is_cancelled: Arc<AtomicBool>);
 
+    /// Gives up a state that was prepared, and isn't sent. No call of the guest's is made
+    /// meanwhile.
+    fn forget_state(&self) {}
+
     /// Sends the prepared state with the device's record ([`Device::save`]). The rings are stopped.
     ///
     /// # Errors

@@ -159,7 +159,7 @@ impl<F: ServedFs> VhostUserBackendReqHandlerMut for FrontEnd<F> {
             self.enable_all(true, Patience::new());
         }
         if self.logs() && self.core.fs.moves() {
-            self.migration.prepare();
+            self.prepare_to_migrate();
         } else {
             self.migration.cancel();
             self.log = None;

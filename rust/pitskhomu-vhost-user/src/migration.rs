@@ -41,6 +41,8 @@ pub struct Migration<F> {
     core: Arc<Core<F>>,
     turn: Arc<Turn>,
     preparation: Option<Preparation>,
+    /// The file system keeps a state that it has prepared, also if nobody wants it any more.
+    is_kept: Arc<AtomicBool>,
     /// The transfer's result.
     transfer: Option<Receiver<io::Result<()>>>,
     /// Ready when a transfer has ended, or the front-end has left.
@@ -122,7 +124,7 @@ fn may_be_loaded<F: ServedFs>(core: &Core<F>) -> io::Result<()> {
 fn save<F: ServedFs>(
     core: &Core<F>,
     preparation: Option<&Preparation>,
-    turn: &Turn,
+    (turn, is_kept): (&Turn, &AtomicBool),
     pipe: File,
 ) -> io::Result<()> {
     if let Err(e) = may_be_saved(core) {
@@ -141,7 +143,9 @@ fn save<F: ServedFs>(
     // A ring whose numbers were never set has none to save.
     let queues = core.rings.iter().filter_map(|ring| ring.lock().queue_if_begun());
     let queues = queues.collect::<Result<Vec<_>, _>>()?;
-    core.fs.save_state(&core.device, &queues, Pipe::out(pipe)?)
+    core.fs.save_state(&core.device, &queues, Pipe::out(pipe)?)?;
+    is_kept.store(false, Ordering::Relaxed);
+    Ok(())
 }
 
 impl<F: ServedFs> Migration<F> {
@@ -156,6 +160,7 @@ impl<F: ServedFs> Migration<F> {
             core,
             turn: Arc::default(),
             preparation: None,
+            is_kept: Arc::default(),
             transfer: None,
             events,
             has_ended: Arc::new(has_ended),
@@ -169,6 +174,25 @@ impl<F: ServedFs> Migration<F> {
         self.events.ctl(ControlOperation::Add, front_end, hung_up)
     }
 
+    /// Whether the file system keeps an earlier state, which it must forget before it prepares
+    /// another.
+    pub fn is_to_forget(&self) -> bool {
+        self.preparation.is_none() && self.is_kept.load(Ordering::Relaxed)
+    }
+
+    /// Has the file system forget that state, while no call of the guest's is made. Returns whether
+    /// it has: it hasn't if that state is still being prepared.
+    pub fn forget(&self) -> bool {
+        let _turn = match self.turn.try_lock() {
+            Ok(taken) => taken,
+            Err(TryLockError::Poisoned(e)) => e.into_inner(),
+            Err(TryLockError::WouldBlock) => return false,
+        };
+        self.core.fs.forget_state();
+        self.is_kept.store(false, Ordering::Relaxed);
+        true
+    }
+
     /// Begins to prepare the state. The guest will move, and still runs.
     pub fn prepare(&mut self) {
         if self.preparation.is_some() {
@@ -179,10 +203,12 @@ impl<F: ServedFs> Migration<F> {
         let (end, done) = sync_channel(1);
         let is_done: Arc<AtomicBool> = Arc::default();
         let (has_ended, event) = (is_done.clone(), self.prepared.clone());
+        let is_kept = self.is_kept.clone();
         let spawned = spawn(move || {
             let prepared = take_turn(&turn).map(|_turn| {
                 if !is_over.load(Ordering::Relaxed) {
-                    core.fs.prepare_state(is_over); // this forgets an earlier preparation
+                    is_kept.store(true, Ordering::Relaxed);
+                    core.fs.prepare_state(is_over);
                 }
             });
             let _ = end.try_send(prepared);
@@ -237,8 +263,8 @@ impl<F: ServedFs> Migration<F> {
     /// Sends the state by this pipe, unless the host holds a call of the guest's.
     pub fn save(&mut self, pipe: File) {
         let (core, turn) = (self.core.clone(), self.turn.clone());
-        let preparation = self.preparation.take();
-        self.begin(move || save(&core, preparation.as_ref(), &turn, pipe));
+        let (preparation, is_kept) = (self.preparation.take(), self.is_kept.clone());
+        self.begin(move || save(&core, preparation.as_ref(), (&turn, &is_kept), pipe));
     }
 
     /// Receives the state by this pipe.

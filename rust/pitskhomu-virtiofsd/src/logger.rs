@@ -7,6 +7,7 @@ mod limits;
 pub use errors::{lead as lead_errors, without_errors};
 use limits::{Limits, Line, LEFT_OUT};
 use log::{Level, Log, Metadata, Record};
+use std::cell::Cell;
 use std::env;
 use std::error::Error;
 use std::fs::File;
@@ -215,9 +216,22 @@ impl Shared {
     }
 }
 
+thread_local! {
+    /// What this thread says isn't logged.
+    static IS_QUIET: Cell<bool> = const { Cell::new(false) };
+}
+
+/// Makes a call whose lines aren't logged.
+pub fn quietly<T>(call: impl FnOnce() -> T) -> T {
+    IS_QUIET.set(true);
+    let result = call();
+    IS_QUIET.set(false);
+    result
+}
+
 impl Log for Logger {
     fn enabled(&self, metadata: &Metadata<'_>) -> bool {
-        self.0.writer.enabled(metadata)
+        !IS_QUIET.get() && self.0.writer.enabled(metadata)
     }
 
     fn log(&self, record: &Record<'_>) {

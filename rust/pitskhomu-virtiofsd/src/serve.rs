@@ -51,7 +51,11 @@ impl<F: OfVirtiofsd> ServedFs for Shared<F> {
     }
 
     fn prepare_state(&self, is_cancelled: Arc<AtomicBool>) {
-        self.fs.prepare_serialization(is_cancelled); // this forgets an earlier preparation
+        self.fs.prepare_serialization(is_cancelled);
+    }
+
+    fn forget_state(&self) {
+        state::forget(&self.fs, &self.scratch);
     }
 
     fn save_state(&self, device: &Device, queues: &[Queue], pipe: Pipe) -> io::Result<()> {

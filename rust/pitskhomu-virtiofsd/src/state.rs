@@ -16,6 +16,7 @@
 //! (`inner`).
 mod inner;
 
+use crate::logger;
 use crate::open_flags::OpenFlags;
 use pitskhomu as p;
 pub use pitskhomu_vhost_user::pipe::scratch;
@@ -64,6 +65,16 @@ fn joined(inner: &[u8], record: &[u8]) -> io::Result<Vec<u8>> {
     state.extend_from_slice(&sum);
     state.extend_from_slice(MARK);
     Ok(state)
+}
+
+/// Has virtiofsd forget a state that it has prepared, which it only does when it writes one. While
+/// it keeps one, it keeps it current with each request.
+pub fn forget(fs: &impl SerializableFileSystem, scratch: &File) {
+    // It warns of each node that isn't prepared, and nobody wants these bytes.
+    let forgotten = logger::quietly(|| over(scratch, |file| fs.serialize(file), &Scratch::Read));
+    if let Err(e) = forgotten {
+        log::warn!("a state that was prepared in vain: {e}");
+    }
 }
 
 /// A saved state for another daemon of this host: without the nodes that are gone for good, which

@@ -15,6 +15,7 @@ const PARTS: &[(&str, &str)] = &[
     ("race", "2"),
     ("logged", "1"),
     ("between", "9"),
+    ("given-up", "20"),
     ("times", "4"),
 ];
 

@@ -1,7 +1,8 @@
 //! A front-end that another daemon takes over.
 use super::FrontEnd;
 use crate::device::{Core, ServedFs};
-use crate::ring::Patience;
+use crate::ring::{Patience, Ring};
+use log::debug;
 use std::fs::File;
 use std::io;
 use std::os::fd::{AsRawFd, OwnedFd, RawFd};
@@ -53,9 +54,28 @@ impl<F: ServedFs> FrontEnd<F> {
         self.migration.prepared.as_raw_fd()
     }
 
-    /// Begins to prepare the state, unless it is prepared already.
-    pub fn prepare(&mut self) {
+    /// Begins to prepare the state, unless it is prepared already. An error says why it can't: an
+    /// earlier state must be forgotten first. Then a save prepares the state.
+    pub fn prepare(&mut self) -> Result<(), String> {
+        if self.migration.is_to_forget() {
+            self.forget()?;
+        }
         self.migration.prepare();
+        Ok(())
+    }
+
+    /// Forgets an earlier state, while the rings are disabled for a moment. virtiofsd's file system
+    /// forgets one with all its nodes locked, and a RENAME that is made meanwhile would wait for
+    /// ever, and so would all other requests.
+    fn forget(&mut self) -> Result<(), String> {
+        let is_enabled: Vec<bool> = self.core.rings.iter().map(Ring::is_enabled).collect();
+        let forgotten = match self.stop_rings(&is_enabled) {
+            Some(held) => Err(format!("the host holds a call of the guest's: {held}")),
+            None if self.migration.forget() => Ok(()),
+            None => Err("an earlier state is being prepared yet".into()),
+        };
+        self.restart_rings(&is_enabled);
+        forgotten
     }
 
     /// Whether the state is prepared: `None` if nobody prepares it any more.
@@ -63,10 +83,17 @@ impl<F: ServedFs> FrontEnd<F> {
         self.migration.is_prepared()
     }
 
+    /// Begins to prepare the state of a guest that migrates.
+    pub fn prepare_to_migrate(&mut self) {
+        if let Err(why) = self.prepare() {
+            debug!("the state is prepared when the guest stops: {why}");
+        }
+    }
+
     /// The guest stays. If it migrates, its state is prepared for that.
     pub fn stay(&mut self) {
         if self.logs() {
-            self.migration.prepare();
+            self.prepare_to_migrate();
         } else {
             self.migration.cancel();
         }

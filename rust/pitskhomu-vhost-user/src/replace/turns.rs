@@ -104,8 +104,19 @@ impl<'t, F: ServedFs> Turns<'t, F> {
             warn!("no other daemon can take over: {e}");
             return false;
         }
-        front_end.prepare();
-        front_end.is_prepared() == Some(true)
+        let (begun, is_prepared) = (front_end.prepare(), front_end.is_prepared());
+        drop(front_end);
+        self.is_ready(begun, is_prepared)
+    }
+
+    /// Whether the state for the chosen daemon is prepared. If its preparation couldn't begin, that
+    /// daemon is tried again in a moment.
+    fn is_ready(&mut self, begun: Result<(), String>, is_prepared: Option<bool>) -> bool {
+        let Err(why) = begun else { return is_prepared == Some(true) };
+        if let Some(chosen) = self.waits.as_mut().and_then(Waits::take_chosen) {
+            self.postpone(chosen.socket, chosen.tries, &why);
+        }
+        false
     }
 
     /// A pause is over, or the state isn't prepared in time. Returns whether it is prepared.
@@ -116,8 +127,9 @@ impl<'t, F: ServedFs> Turns<'t, F> {
             );
         }
         let mut front_end = self.front_end();
-        front_end.prepare();
-        front_end.is_prepared() == Some(true)
+        let (begun, is_prepared) = (front_end.prepare(), front_end.is_prepared());
+        drop(front_end);
+        self.is_ready(begun, is_prepared)
     }
 
     /// The chosen daemon doesn't take over.

@@ -29,6 +29,11 @@ pub struct Handed {
 }
 
 impl Ring {
+    /// Whether the front-end has enabled it.
+    pub fn is_enabled(&self) -> bool {
+        self.lock().is_enabled
+    }
+
     /// All that the front-end has said of the ring.
     pub fn handed(&self) -> io::Result<Handed> {
         let state = self.lock();

@@ -109,7 +109,8 @@ def trace(daemon):
             attach(thread)
             threads.append(thread)
     time.sleep(A_WHILE)
-    for thread in threads:
+    # A process's first thread can be waited for once the others were.
+    for thread in reversed(threads):
         try:
             ptrace(PTRACE_DETACH, thread)
         except ProcessLookupError: # its process ends, and only the debugger may wait for it
