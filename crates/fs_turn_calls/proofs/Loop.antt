@@ -87,8 +87,8 @@ takes i s' w q fresh other there fits world room =
       world = (
         place.0 ∙ ap (λ (n : ℕ). (n + 1) % 2 ^ 16) world.0,
         place.1 ∙ ap (λ (n : ℕ). n + 1) world.1
-        ∙ one_taken q.queue.position q.next_used q.max_in_flight fits.position fits.next_used fits.most
-        (lt_of (in_flight q) q.max_in_flight room),
+            ∙ one_taken q.queue.position q.next_used q.max_in_flight fits.position fits.next_used fits.most
+            (lt_of (in_flight q) q.max_in_flight room),
       );
       same = refl;
     }
@@ -171,7 +171,7 @@ pushes i s' w q notice none there fits world may =
       world = (
         place.0 ∙ world.0,
         place.1 ∙ ap (λ (n : ℕ). n - 1) world.1
-        ∙ one_returned q.queue.position q.next_used fits.position fits.next_used (subst (λ (n : ℕ). 0 < n) world.1 some),
+            ∙ one_returned q.queue.position q.next_used fits.position fits.next_used (subst (λ (n : ℕ). 0 < n) world.1 some),
       );
       same = refl;
     }
@@ -194,7 +194,7 @@ drops i s' w q none there fits world may =
       world = (
         place.0 ∙ ap (λ (n : ℕ). (n + (2 ^ 16 - 1)) % 2 ^ 16) world.0,
         place.1 ∙ ap (λ (n : ℕ). n - 1) world.1
-        ∙ one_dropped q.queue.position q.next_used fits.position fits.next_used (subst (λ (n : ℕ). 0 < n) world.1 some),
+            ∙ one_dropped q.queue.position q.next_used fits.position fits.next_used (subst (λ (n : ℕ). 0 < n) world.1 some),
       );
       same = refl;
     }
