@@ -167,7 +167,8 @@ impl Builder {
 
     /// Serves requests by values: a handler answers each at once, or hands its reply object to
     /// another thread, or to an async task. Until that answers, a thread of the queue waits. The
-    /// rest is as of `serve`. A function of a [`Request`](pitskhomu::Request) is a handler.
+    /// rest is as of `serve`. A function of a [`Request`](pitskhomu::Request) is a handler. A type
+    /// that counts nodes implements [`Handler`]: it gets what is to be undone, and a session's end.
     ///
     /// # Errors
     /// Those of `serve`.
@@ -184,8 +185,8 @@ impl Builder {
     }
 
     /// The same for a listener that was made before, for example by systemd, or before the process
-    /// entered a sandbox. [`ByMethods`] makes a handler of a file system. One VMM is served; later
-    /// ones may connect, and wait.
+    /// entered a sandbox. [`ByMethods`] makes a handler of a file system. One VMM is served: the
+    /// listener is closed once it has connected.
     ///
     /// # Errors
     /// Those of `serve`.
@@ -237,7 +238,7 @@ impl Builder {
         );
         let core = Arc::new(core.map_err(Error::Device)?);
         core.rings.iter().for_each(|ring| ring.poll_at_most(self.polls));
-        session::start_threads(&core, || Ok(()))?;
+        session::start_threads(&core, || Ok(())).inspect_err(|_| core.end())?;
         let ended = session::run(&core, self.tag, (socket, takes_over), control);
         core.end();
         if let Some(path) = &mut path {

@@ -118,5 +118,6 @@ pub mod state;
 
 pub use builder::{serve, Builder};
 pub use error::Error;
+pub use pitskhomu::live::Handler;
 pub use served::ByMethods;
 pub use state::MovableState;
