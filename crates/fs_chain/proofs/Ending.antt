@@ -13,7 +13,7 @@ use Rattle.fs_regions.specs.declared.step.CourseStep.TheVariants as step
 use Rattle.fs_regions.specs.declared.walk.QueueWalk.{QueueWalk}
 use Rattle.live_machine.proofs.Loads.{inside_of, made, made_more, room_for_one}
 use Rattle.fs_chain.specs.declared.error.ChainError.{ChainError}
-use Rattle.fs_chain.specs.Ending.{EndsSoon, EndsWithin}
+use Rattle.fs_chain.specs.Ending.{EndsSoon, PopEndsWithin}
 use Rattle.fs_chain.specs.Events.{event_fault, event_miss}
 use Rattle.fs_chain.specs.Loads.{ProceedsSo, whole}
 use Rattle.fs_chain.specs.Queues.{pop_id_of}
@@ -34,7 +34,7 @@ record Reached (size m : ℕ) (w : ChainHandle) : Type 0 where
   pop_id : PopId
   walk : QueueWalk
   loaded : Loaded
-  state : w.state ≡ at.Walking course pop_id walk
+  state : w.state ≡ at.Popping course pop_id walk
   size_is : course.layout.size ≡ size
   comes : IsWalkAt (places_in w.regions) (queue_of course) loaded w.descriptors.items walk
   longest : IsLongestStretch (places_in w.regions) (queue_of course) w.descriptors.items walk
@@ -122,35 +122,35 @@ abbrev IfAsks : (size m : ℕ) → ChainHandle → walked.PopOutcome → Type 0
 IfAsks size m w (shows.Load len) = Reached size m w
 IfAsks size m w _ = Unit {0}
 
-asks_next : (size m : ℕ) (old new : ChainHandle) (q q' : QueueState) (bytes : List ℕ) (reported : walked.PopOutcome)
-    → Reached size m old → ProceedsSo old q bytes (outcomes.On reported) new q' → IfAsks size (suc m) new reported
+asks_next : (size m : ℕ) (old new : ChainHandle) (q q' : QueueState) (bytes : List ℕ) (result : walked.PopOutcome)
+    → Reached size m old → ProceedsSo old q bytes (outcomes.On result) new q' → IfAsks size (suc m) new result
 asks_next size m old new q q' bytes (shows.Load len) r call =
     gone q.stopped size m old new q q' (whole old bytes) len r
     (subst (λ (st : state.ChainState). WalksFrom st (whole old bytes) old new q q' (shows.Load len)) r.state call.4)
 asks_next size m old new q q' bytes _ r call = tt
 
-ends_within : (size n m : ℕ) (w : ChainHandle) (reported : walked.PopOutcome) → IfAsks size m w reported → size + 4 ≤ m + n →
-    EndsWithin n w reported
-unfolding EndsWithin
+ends_within : (size n m : ℕ) (w : ChainHandle) (result : walked.PopOutcome) → IfAsks size m w result → size + 4 ≤ m + n →
+    PopEndsWithin n w result
+unfolding PopEndsWithin
 ends_within size zero m w (shows.Load len) r enough =
     let less = few size m w r in absurd (omega (arith, less, enough))
-ends_within size (suc n) m w (shows.Load len) r enough = λ v new q q' bytes reported same call.
-    ends_within size n (suc m) new reported (asks_next size m v new q q' bytes reported (another size m w v same r) call)
+ends_within size (suc n) m w (shows.Load len) r enough = λ v new q q' bytes result same call.
+    ends_within size n (suc m) new result (asks_next size m v new q q' bytes result (another size m w v same r) call)
     (omega (arith, enough))
 ends_within size zero m w _ r enough = tt
 ends_within size (suc n) m w _ r enough = tt
 
-begins_asking : (old new : ChainHandle) (q q' : QueueState) (reported : walked.PopOutcome) → BeginsUnless q.stopped old new q q' reported →
-    IfAsks q.layout.size 0 new reported
+begins_asking : (old new : ChainHandle) (q q' : QueueState) (result : walked.PopOutcome) → BeginsUnless q.stopped old new q q' result →
+    IfAsks q.layout.size 0 new result
 begins_asking old new q q' (shows.Load len) h = begun q.stopped old new q q' len h
 begins_asking old new q q' _ h = tt
 
 by_state : (st : state.ChainState) (old new : ChainHandle) (q q' : QueueState) (bytes : List ℕ) (o : outcome.LoadOutcome) → old.state ≡ st
     → ProceedsSo old q bytes o new q' → EndsSoon st new q.layout.size o
-by_state at.Free old new q q' bytes (outcomes.On reported) is call =
-    ends_within q.layout.size (q.layout.size + 4) 0 new reported
-    (begins_asking old new q q' reported
-    (subst (λ (st : state.ChainState). WalksFrom st (whole old bytes) old new q q' reported) is call.4)) (omega arith)
+by_state at.Free old new q q' bytes (outcomes.On result) is call =
+    ends_within q.layout.size (q.layout.size + 4) 0 new result
+    (begins_asking old new q q' result
+    (subst (λ (st : state.ChainState). WalksFrom st (whole old bytes) old new q q' result) is call.4)) (omega arith)
 by_state at.Free old new q q' bytes outcomes.Part is call = tt
 by_state _ old new q q' bytes o is call = tt
 

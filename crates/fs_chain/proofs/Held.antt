@@ -50,9 +50,9 @@ asked_is_mapped limit p w i held less =
     (list_all (λ x. is_some (location (places_in w.regions) Read x)) (addresses (asked_by walk) (asked_len walk))) held.there).1 less
 
 pub loads_count : LoadsCount
-loads_count limit p w ds reported bytes loaded held adds =
-    let so : AddsSo (at.Walking held.course held.pop_id held.walk) (outcomes.On reported) ds p.loaded bytes loaded =
-    subst (λ (st : state.ChainState). AddsSo st (outcomes.On reported) ds p.loaded bytes loaded) held.state adds in
+loads_count limit p w ds result bytes loaded held adds =
+    let so : AddsSo (at.Popping held.course held.pop_id held.walk) (outcomes.On result) ds p.loaded bytes loaded =
+    subst (λ (st : state.ChainState). AddsSo st (outcomes.On result) ds p.loaded bytes loaded) held.state adds in
     let more = made_more (places_in w.regions) (queue_of held.course) p.loaded loaded w.descriptors.items held.walk bytes so.0 held.comes
     so.2 in
     omega (arith, more)
@@ -68,21 +68,21 @@ loads_are_few limit p w held =
 -- a chain that a handle holds without a reply
 unreplied : (page_size : ℕ) (c : InFlightChain) (p : Phase) (st : state.ChainState) (session : Session) → IsWithoutReply st →
     IsHeldIn page_size c p st session → HasUnreplied c st
-unreplied page_size c Fetched (at.Taken out) session is held = held
-unreplied page_size c (PoppedFaulty why) (at.Taken out) session is held = absurd held
-unreplied page_size c (Asked request options calls) (at.Taken out) session is held = absurd held
-unreplied page_size c (Own request reply) (at.Taken out) session is held = absurd held
-unreplied page_size c (Abandoned fault) (at.Taken out) session is held = absurd held
-unreplied page_size c (Asked request options calls) (at.Waits out w) session is held = held.0
-unreplied page_size c (PoppedFaulty why) (at.Waits out w) session is held = absurd held
-unreplied page_size c Fetched (at.Waits out w) session is held = absurd held
-unreplied page_size c (Own request reply) (at.Waits out w) session is held = absurd held
-unreplied page_size c (Abandoned fault) (at.Waits out w) session is held = absurd held
-unreplied page_size c (Asked request options calls) (at.Lists out l) session is held = held.0
-unreplied page_size c (PoppedFaulty why) (at.Lists out l) session is held = absurd held
-unreplied page_size c Fetched (at.Lists out l) session is held = absurd held
-unreplied page_size c (Own request reply) (at.Lists out l) session is held = absurd held
-unreplied page_size c (Abandoned fault) (at.Lists out l) session is held = absurd held
+unreplied page_size c Fetched (at.Popped out) session is held = held
+unreplied page_size c (PoppedFaulty why) (at.Popped out) session is held = absurd held
+unreplied page_size c (Asked request options calls) (at.Popped out) session is held = absurd held
+unreplied page_size c (Own request reply) (at.Popped out) session is held = absurd held
+unreplied page_size c (Abandoned fault) (at.Popped out) session is held = absurd held
+unreplied page_size c (Asked request options calls) (at.Decoded out w) session is held = held.0
+unreplied page_size c (PoppedFaulty why) (at.Decoded out w) session is held = absurd held
+unreplied page_size c Fetched (at.Decoded out w) session is held = absurd held
+unreplied page_size c (Own request reply) (at.Decoded out w) session is held = absurd held
+unreplied page_size c (Abandoned fault) (at.Decoded out w) session is held = absurd held
+unreplied page_size c (Asked request options calls) (at.Listing out l) session is held = held.0
+unreplied page_size c (PoppedFaulty why) (at.Listing out l) session is held = absurd held
+unreplied page_size c Fetched (at.Listing out l) session is held = absurd held
+unreplied page_size c (Own request reply) (at.Listing out l) session is held = absurd held
+unreplied page_size c (Abandoned fault) (at.Listing out l) session is held = absurd held
 unreplied page_size c p st session is held = absurd is
 
 pub held_is_unreplied : HeldIsUnreplied

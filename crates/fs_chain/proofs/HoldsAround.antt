@@ -14,8 +14,9 @@ use Rattle.live_machine.proofs.Queues.{there_same}
 use Rattle.live_machine.proofs.Wishes.{none_stored, wish_by_event, wish_stored}
 use Rattle.fs_chain.specs.Events as events
 use Rattle.fs_chain.specs.Events.{store_of}
-use Rattle.fs_chain.specs.Holds.{HoldsChain, Machine, any_files, live_of}
-use Rattle.fs_chain.specs.HoldsAround.{AbandonsChain, MayRemap, NotificationIs, RemapsTable, Resets, SetsMemory, StoresNotice, remapped}
+use Rattle.fs_chain.specs.Holds.{HoldsInFlight, RunState, any_files, live_of}
+use Rattle.fs_chain.specs.HoldsAround.{AbandonsInRun, MayRemap, NotificationIs, RemapsTable, ResetsInRun, SetsMemoryInRun}
+use Rattle.fs_chain.specs.HoldsAround.{StoresNotificationInRun, remapped}
 use Rattle.fs_chain.specs.Pushes.{IsFreed}
 use Rattle.fs_chain.specs.Queues.{reset_to, set_as}
 use Rattle.fs_chain.specs.Tables.{with_table}
@@ -25,8 +26,8 @@ use Rattle.fs_chain.specs.declared.chain_handle.ChainHandle.{ChainHandle}
 use Rattle.fs_chain.specs.declared.notifications.NotificationStore.{NotificationStore}
 use Rattle.fs_chain.specs.declared.queue.QueueState.{QueueState}
 
-pub abandons : (old new : ChainHandle) → IsFreed old new → AbandonsChain old new
-unfolding AbandonsChain
+pub abandons : (old new : ChainHandle) → IsFreed old new → AbandonsInRun old new
+unfolding AbandonsInRun
 abandons old new freed s before behind c out = (
   record { before = before; behind = behind; out = out; state = refl },
   freed.0.3,
@@ -36,8 +37,8 @@ abandons old new freed s before behind c out = (
 -- ---- a store before a sleep
 
 pub stores_notice : (q : QueueState) (wanted : Bool) (store : Option NotificationStore) →
-    option_map store_of store ≡ events.notification_store q wanted → StoresNotice q wanted store
-unfolding StoresNotice
+    option_map store_of store ≡ events.notification_store q wanted → StoresNotificationInRun q wanted store
+unfolding StoresNotificationInRun
 stores_notice q wanted store is s i there = by_store store is
   where
     by_store : (store : Option NotificationStore) → option_map store_of store ≡ events.notification_store q wanted →
@@ -54,8 +55,8 @@ stores_notice q wanted store is s i there = by_store store is
 -- ---- a reset, and another memory
 
 pub resets : (old new : QueueState) (layout : QueueLayout) (position : ℕ) → new ≡ reset_to old layout position → position < 2 ^ 16 →
-    Resets old new
-unfolding Resets
+    ResetsInRun old new
+unfolding ResetsInRun
 resets old new layout position is small s i set there some few =
     let w : LiveQueue = live_of (set_as new set) in (
       record {
@@ -71,17 +72,17 @@ resets old new layout position is small s i set there some few =
       there_same s.queues i i (λ _. w) (live_of old) refl there,
     )
 
-remaps : (s : Machine) (m : Memory) → MayRemap s m → Happens any_files s (Remaps m) (remapped s m)
+remaps : (s : RunState) (m : Memory) → MayRemap s m → Happens any_files s (Remaps m) (remapped s m)
 remaps s m keeps =
     let all : AllByRecursion (KeepsQueue s m) s.chains =
     elim keeps [
       | inl none ↦ subst (λ (cs : List InFlightChain). AllByRecursion (KeepsQueue s m) cs) (sym none) tt
-      | inr preserved ↦ preserved
+      | inr kept ↦ kept
     ] in record { keeps = all; state = refl }
 
 sets_free : (new : ChainHandle) (regions : Mapped) (limit : ℕ) → new.regions ≡ regions → new.limit ≡ limit → new.state ≡ at.Free →
-    SetsMemory new regions limit
-unfolding SetsMemory
+    SetsMemoryInRun new regions limit
+unfolding SetsMemoryInRun
 sets_free new regions limit regions_are limit_is free s keeps = (
   remaps s (places_in regions) keeps,
   free,
@@ -90,8 +91,8 @@ sets_free new regions limit regions_are limit_is free s keeps = (
 
 pub sets_memory : (old new : ChainHandle) (regions : Mapped) (limit : ℕ) (result : Result (Unit {0}) ChainError) → old.state ≡ at.Free
     → OnOk result ((new.regions ≡ regions) × (new.limit ≡ limit) × (new.state ≡ old.state) × (new.part ≡ old.part)
-    × (new.session ≡ old.session) × (new.serial ≡ old.serial) × (new.list_len ≡ old.list_len))
-    → OnOk result (SetsMemory new regions limit)
+    × (new.session ≡ old.session) × (new.ticket ≡ old.ticket) × (new.list_len ≡ old.list_len))
+    → OnOk result (SetsMemoryInRun new regions limit)
 sets_memory old new regions limit (Ok done) free set = sets_free new regions limit set.0 set.1 (set.2 ∙ free)
 sets_memory old new regions limit (Err e) free set = tt
 
@@ -102,5 +103,5 @@ unfolding RemapsTable
 remaps_table old new table is s keeps = (
   remaps s (places_in (with_table old table).regions) keeps,
   λ limit. (ap (λ (w : ChainHandle). places_in w.regions) (sym is), limit ∙ ap (λ (w : ChainHandle). w.limit) (sym is)),
-  λ c held. subst (λ (w : ChainHandle). HoldsChain s.page_size c w) (sym is) held,
+  λ c held. subst (λ (w : ChainHandle). HoldsInFlight s.page_size c w) (sym is) held,
 )

@@ -19,7 +19,7 @@ use Rattle.live_machine.specs.Live.{DecodesRequest, Fetched, Happens, InFlightCh
 use Rattle.live_machine.specs.Live.{room_of_phase}
 use Rattle.live_machine.proofs.Queues.{none_some}
 use Rattle.fs_chain.specs.Decoding.{IfUndecoded, KeepsCall, KeepsReply, ReportsMeaning, asked_of}
-use Rattle.fs_chain.specs.Holds.{any_files, Decodes, DecodingIs, IsDecodedIn, IsHeldIn, IsOutAs, IsUnanswered, KeepsReplyOf, Machine}
+use Rattle.fs_chain.specs.Holds.{any_files, DecodesInRun, DecodingIs, IsDecodedIn, IsHeldIn, IsOutAs, IsUnanswered, KeepsReplyOf, RunState}
 use Rattle.fs_chain.specs.Holds.{calls_decoded}
 use Rattle.fs_chain.specs.Orders.{ask_error, front_in, front_len, front_of}
 use Rattle.fs_chain.specs.Walks.{no_reply}
@@ -50,19 +50,19 @@ call_waits s m command c is made =
 -- ---- a reply without a call
 
 -- a reply that is a front alone, and fits
-pub keeps_front : (s : Setting) (m : Meaning) (calls : List FileCall) (given : ServedMessage) (out preserved_out : InFlight)
-    (preserved : ChainReply)
-    → preserved_out ≡ out → preserved.behind ≡ 0 → given.reply ≡ front_of preserved → length given.reply ≤ out.room_len
+pub keeps_front : (s : Setting) (m : Meaning) (calls : List FileCall) (given : ServedMessage) (out kept_out : InFlight)
+    (kept : ChainReply)
+    → kept_out ≡ out → kept.behind ≡ 0 → given.reply ≡ front_of kept → length given.reply ≤ out.room_len
     → out.room_len ≤ 2 ^ 31
-    → KeepsReplyOf given.reply out preserved
-keeps_front s m calls given out preserved_out preserved same none is fits small =
-    let zero : front_len preserved + 0 ≡ front_len preserved = omega arith in
-    let len_is : front_len preserved + preserved.behind ≡ length given.reply =
-    ap (λ (n : ℕ). front_len preserved + n) none ∙ zero ∙ sym (ap length is) in
+    → KeepsReplyOf given.reply out kept
+keeps_front s m calls given out kept_out kept same none is fits small =
+    let zero : front_len kept + 0 ≡ front_len kept = omega arith in
+    let len_is : front_len kept + kept.behind ≡ length given.reply =
+    ap (λ (n : ℕ). front_len kept + n) none ∙ zero ∙ sym (ap length is) in
     record {
       behind = [];
-      bytes = is ∙ sym (append-nil (front_of preserved));
-      len = isnt_cut out preserved (length given.reply) len_is fits small;
+      bytes = is ∙ sym (append-nil (front_of kept));
+      len = isnt_cut out kept (length given.reply) len_is fits small;
     }
 
 -- ---- what is kept
@@ -84,10 +84,10 @@ by_call : (page_size options : ℕ) (request : List ℕ) (c : InFlightChain) (ou
     (st : state.ChainState) (session : Session) → IsOutAs c out → IsDecodedIn page_size options session
     → KeepsCall (setting page_size options out.room_len) (meaning options request out.room_len) (drop 80 request) made out st
     → DecodedSo page_size options request c out (asks.Call made) st session
-by_call page_size options request c out made (at.Waits preserved w) session is_out decoded keeps =
+by_call page_size options request c out made (at.Decoded kept w) session is_out decoded keeps =
     let a = keeps.1 in
     let P : InFlight → Type 0 = λ o. IsHeldIn page_size (asked_chain c request options []) (asked_chain c request options []).phase
-    (at.Waits o w) session in (
+    (at.Decoded o w) session in (
       call_waits (setting page_size options out.room_len) (meaning options request out.room_len) a.0 (call_of (drop 80 request) made) a.1
           a.2,
       subst P (sym keeps.0) (
@@ -100,11 +100,11 @@ by_call page_size options request c out made (at.Waits preserved w) session is_o
       ),
       refl,
     )
-by_call page_size options request c out made (at.Lists preserved l) session is_out decoded keeps =
+by_call page_size options request c out made (at.Listing kept l) session is_out decoded keeps =
     let a = keeps.1 in
     let list = list_command l out.room_len a.0 a.4 in
     let P : InFlight → Type 0 = λ o. IsHeldIn page_size (asked_chain c request options []) (asked_chain c request options []).phase
-    (at.Lists o l) session in (
+    (at.Listing o l) session in (
       call_waits (setting page_size options out.room_len) (meaning options request out.room_len) a.0 (call_of (drop 80 request) made) a.1
           a.2,
       subst P (sym keeps.0) (
@@ -123,20 +123,20 @@ by_call page_size options request c out made (at.Lists preserved l) session is_o
 by_call page_size options request c out made st session is_out decoded keeps = absurd keeps
 
 -- by a reply that is known
-known : (page_size options : ℕ) (request : List ℕ) (c : InFlightChain) (out preserved : InFlight) (reply : ChainReply) (session : Session)
-    (given : ServedMessage) → IsOutAs c out → preserved ≡ out → reply.behind ≡ 0
+known : (page_size options : ℕ) (request : List ℕ) (c : InFlightChain) (out kept : InFlight) (reply : ChainReply) (session : Session)
+    (given : ServedMessage) → IsOutAs c out → kept ≡ out → reply.behind ≡ 0
     → served (setting page_size options out.room_len) (meaning options request out.room_len) [] ≡ given → given.calls ≡ []
     → given.reply ≡ front_of reply
     → ([] ≡ (served (setting page_size options out.room_len) (meaning options request out.room_len) []).calls)
-    × IsHeldIn page_size (asked_chain c request options []) (asked_chain c request options []).phase (at.HasReply preserved reply) session
-known page_size options request c out preserved reply session given is_out same none serving no_calls is =
+    × IsHeldIn page_size (asked_chain c request options []) (asked_chain c request options []).phase (at.Replied kept reply) session
+known page_size options request c out kept reply session given is_out same none serving no_calls is =
     let s = setting page_size options out.room_len in
     let m = meaning options request out.room_len in
     let fits : length given.reply ≤ out.room_len =
     subst (λ (x : ServedMessage). length x.reply ≤ out.room_len) serving (served_fits s m []) in
-    let keeps : KeepsReplyOf given.reply out reply = keeps_front s m [] given out preserved reply same none is fits is_out.small in
+    let keeps : KeepsReplyOf given.reply out reply = keeps_front s m [] given out kept reply same none is fits is_out.small in
     let P : InFlight → Type 0 = λ o. IsHeldIn page_size (asked_chain c request options []) (asked_chain c request options []).phase
-    (at.HasReply o reply) session in (
+    (at.Replied o reply) session in (
       sym (ap (λ (k : ServedMessage). k.calls) serving ∙ no_calls),
       subst P (sym same) (
         out_in c _ _ is_out,
@@ -145,38 +145,38 @@ known page_size options request c out preserved reply session given is_out same 
       ),
     )
 
-by_front : (page_size options : ℕ) (request : List ℕ) (c : InFlightChain) (out preserved : InFlight) (reply : ChainReply)
+by_front : (page_size options : ℕ) (request : List ℕ) (c : InFlightChain) (out kept : InFlight) (reply : ChainReply)
     (session : Session)
-    (f : Option (List ℕ)) → IsOutAs c out → preserved ≡ out → reply.behind ≡ 0 → reply.front ≡ f
+    (f : Option (List ℕ)) → IsOutAs c out → kept ≡ out → reply.behind ≡ 0 → reply.front ≡ f
     → IsDecoded (setting page_size options out.room_len) (meaning options request out.room_len) (drop 80 request) (asked_of f)
     → ([] ≡ (served (setting page_size options out.room_len) (meaning options request out.room_len) []).calls)
-    × IsHeldIn page_size (asked_chain c request options []) (asked_chain c request options []).phase (at.HasReply preserved reply) session
-by_front page_size options request c out preserved reply session None is_out same none front reported =
-    known page_size options request c out preserved reply session
-    (record { calls = []; options = options; reply = []; fault = None }) is_out same none reported refl (sym (ap front_in front))
-by_front page_size options request c out preserved reply session (Some bytes) is_out same none front reported =
-    known page_size options request c out preserved reply session
-    (record { calls = []; options = options; reply = bytes; fault = None }) is_out same none reported.0 refl (sym (ap front_in front))
+    × IsHeldIn page_size (asked_chain c request options []) (asked_chain c request options []).phase (at.Replied kept reply) session
+by_front page_size options request c out kept reply session None is_out same none front result =
+    known page_size options request c out kept reply session
+    (record { calls = []; options = options; reply = []; fault = None }) is_out same none result refl (sym (ap front_in front))
+by_front page_size options request c out kept reply session (Some bytes) is_out same none front result =
+    known page_size options request c out kept reply session
+    (record { calls = []; options = options; reply = bytes; fault = None }) is_out same none result.0 refl (sym (ap front_in front))
 
 by_reply : (page_size options : ℕ) (request : List ℕ) (c : InFlightChain) (out : InFlight) (st : state.ChainState) (session : Session)
     → IsOutAs c out
     → KeepsReply (setting page_size options out.room_len) (meaning options request out.room_len) (drop 80 request) out st
     → DecodedSo page_size options request c out asks.Nothing st session
-by_reply page_size options request c out (at.HasReply preserved reply) session is_out keeps =
-    let so = by_front page_size options request c out preserved reply session reply.front is_out keeps.0 keeps.1 refl keeps.2 in
+by_reply page_size options request c out (at.Replied kept reply) session is_out keeps =
+    let so = by_front page_size options request c out kept reply session reply.front is_out keeps.0 keeps.1 refl keeps.2 in
     (so.0, so.1, refl)
 by_reply page_size options request c out st session is_out keeps = absurd keeps
 
 -- ---- the result
 
 -- a decoding with these calls is an event
-decoded_event : (s : Machine) (before behind : List InFlightChain) (c : InFlightChain) (request : List ℕ) (out : InFlight)
-    (reported : Decoded)
+decoded_event : (s : RunState) (before behind : List InFlightChain) (c : InFlightChain) (request : List ℕ) (out : InFlight)
+    (result : Decoded)
     → s.chains ≡ before ++ c ∷ behind → c.phase ≡ Fetched → IsOutAs c out → length request ≡ total_len (readable c.descriptors)
-    → calls_decoded (drop 80 request) reported
+    → calls_decoded (drop 80 request) result
     ≡ (served (setting s.page_size s.options out.room_len) (meaning s.options request out.room_len) []).calls
-    → Happens any_files s (DecodesRequest c request (calls_decoded (drop 80 request) reported)) (after_decoding s before behind c request)
-decoded_event s before behind c request out reported is fresh is_out len calls =
+    → Happens any_files s (DecodesRequest c request (calls_decoded (drop 80 request) result)) (after_decoding s before behind c request)
+decoded_event s before behind c request out result is fresh is_out len calls =
     let room : length (room_of c) ≡ out.room_len =
     ap (λ (p : Phase). length (room_of_phase p c.descriptors)) fresh ∙ is_out.room_len in
     record {
@@ -189,24 +189,24 @@ decoded_event s before behind c request out reported is fresh is_out len calls =
       state = refl;
     }
 
-by_reported : (s : Machine) (before behind : List InFlightChain) (c : InFlightChain) (request : List ℕ) (out : InFlight) (new : ChainHandle)
-    (reported : Decoded)
+by_decoded : (s : RunState) (before behind : List InFlightChain) (c : InFlightChain) (request : List ℕ) (out : InFlight) (new : ChainHandle)
+    (result : Decoded)
     → s.chains ≡ before ++ c ∷ behind → c.phase ≡ Fetched → IsOutAs c out → IsDecodedIn s.page_size s.options new.session
     → length request ≡ total_len (readable c.descriptors)
-    → ReportsMeaning (setting s.page_size s.options out.room_len) (meaning s.options request out.room_len) (drop 80 request) out reported
+    → ReportsMeaning (setting s.page_size s.options out.room_len) (meaning s.options request out.room_len) (drop 80 request) out result
     new.state
-    → DecodingIs s before behind c request new reported
-by_reported s before behind c request out new (asks.More n) is fresh is_out session len reports =
+    → DecodingIs s before behind c request new result
+by_decoded s before behind c request out new (asks.More n) is fresh is_out session len reports =
     let P : state.ChainState → Type 0 = λ st. IsHeldIn s.page_size c c.phase st new.session in
-    let Q : Phase → Type 0 = λ p. IsHeldIn s.page_size c p (at.Taken out) new.session in
+    let Q : Phase → Type 0 = λ p. IsHeldIn s.page_size c p (at.Popped out) new.session in
     subst P (sym reports) (subst Q (sym fresh) is_out)
-by_reported s before behind c request out new (asks.Call made) is fresh is_out session len reports =
+by_decoded s before behind c request out new (asks.Call made) is fresh is_out session len reports =
     let so = by_call s.page_size s.options request c out made new.state new.session is_out session reports in
     (decoded_event s before behind c request out (asks.Call made) is fresh is_out len so.0, (so.1, so.2))
-by_reported s before behind c request out new asks.Nothing is fresh is_out session len reports =
+by_decoded s before behind c request out new asks.Nothing is fresh is_out session len reports =
     let so = by_reply s.page_size s.options request c out new.state new.session is_out reports in
     (decoded_event s before behind c request out asks.Nothing is fresh is_out len so.0, (so.1, so.2))
-by_reported s before behind c request out new (asks.Fault e) is fresh is_out session len reports =
+by_decoded s before behind c request out new (asks.Fault e) is fresh is_out session len reports =
     let so = known s.page_size s.options request c out out no_reply new.session
     (serving_words.no_reply [] s.options (Some e)) is_out refl refl reports.1 refl refl in (
       decoded_event s before behind c request out (asks.Fault e) is fresh is_out len so.0,
@@ -217,55 +217,55 @@ by_reported s before behind c request out new (asks.Fault e) is fresh is_out ses
       ),
     )
 
-taken_phase : (page_size : ℕ) (c : InFlightChain) (p : Phase) (out : InFlight) (session : Session) →
-    IsHeldIn page_size c p (at.Taken out) session → (p ≡ Fetched) × IsOutAs c out
-taken_phase page_size c Fetched out session held = (refl, held)
-taken_phase page_size c p out session held = absurd held
+popped_phase : (page_size : ℕ) (c : InFlightChain) (p : Phase) (out : InFlight) (session : Session) →
+    IsHeldIn page_size c p (at.Popped out) session → (p ≡ Fetched) × IsOutAs c out
+popped_phase page_size c Fetched out session held = (refl, held)
+popped_phase page_size c p out session held = absurd held
 
 -- what a decoding from this state says
-abbrev Shows : state.ChainState → Session → (front : List ℕ) → Decoded → (new : ChainHandle) → Type 0
-Shows st session front reported new =
+abbrev ShowsDecoded : state.ChainState → Session → (front : List ℕ) → Decoded → (new : ChainHandle) → Type 0
+ShowsDecoded st session front result new =
     IfUndecoded st (λ out. (whole : List ℕ) → out.request_len ≡ length whole → IsRequestFront front whole →
     ReportsMeaning (setting session.page_size session.options.0 out.room_len) (meaning session.options.0 whole out.room_len) (drop 80 whole)
-    out reported new.state)
+    out result new.state)
 
-by_state : (st : state.ChainState) (was : Session) (new : ChainHandle) (session : Session) (front : List ℕ) (reported : Decoded)
-    → ask_error st (length front) ≡ None → Shows st session front reported new → new.session ≡ session
-    → (s : Machine) (before behind : List InFlightChain) (c : InFlightChain) (request : List ℕ)
+by_state : (st : state.ChainState) (was : Session) (new : ChainHandle) (session : Session) (front : List ℕ) (result : Decoded)
+    → ask_error st (length front) ≡ None → ShowsDecoded st session front result new → new.session ≡ session
+    → (s : RunState) (before behind : List InFlightChain) (c : InFlightChain) (request : List ℕ)
     → s.chains ≡ before ++ c ∷ behind → IsHeldIn s.page_size c c.phase st was → IsDecodedIn s.page_size s.options session
     → length request ≡ total_len (readable c.descriptors) → IsRequestFront front request
-    → DecodingIs s before behind c request new reported
-by_state (at.Taken out) was new session front reported clear shows preserved s before behind c request is held decoded len begins =
-    let so = taken_phase s.page_size c c.phase out was held in
+    → DecodingIs s before behind c request new result
+by_state (at.Popped out) was new session front result clear shows kept s before behind c request is held decoded len begins =
+    let so = popped_phase s.page_size c c.phase out was held in
     let is_out : IsOutAs c out = so.1 in
     let by = shows request (is_out.request_len ∙ sym len) begins in
     let reports : ReportsMeaning (setting s.page_size s.options out.room_len) (meaning s.options request out.room_len) (drop 80 request) out
-    reported
+    result
     new.state =
     subst (λ (p : ℕ). ReportsMeaning (setting p s.options out.room_len) (meaning s.options request out.room_len) (drop 80 request) out
-    reported
+    result
     new.state) decoded.0
     (subst (λ (a : ℕ). ReportsMeaning (setting session.page_size a out.room_len) (meaning a request out.room_len) (drop 80 request) out
-    reported
+    result
     new.state) decoded.1 by) in
-    let there : IsDecodedIn s.page_size s.options new.session = subst (IsDecodedIn s.page_size s.options) (sym preserved) decoded in
-    by_reported s before behind c request out new reported is so.0 is_out there len reports
-by_state st was new session front reported clear shows preserved s before behind c request is held decoded len begins =
+    let there : IsDecodedIn s.page_size s.options new.session = subst (IsDecodedIn s.page_size s.options) (sym kept) decoded in
+    by_decoded s before behind c request out new result is so.0 is_out there len reports
+by_state st was new session front result clear shows kept s before behind c request is held decoded len begins =
     absurd (none_some error.WrongOrder (sym clear))
 
-pub decodes : (old new : ChainHandle) (session : Session) (front : List ℕ) (reported : Decoded)
-    → ask_error old.state (length front) ≡ None → Shows old.state session front reported new → new.session ≡ session
-    → Decodes old new session front reported
-unfolding Decodes
-decodes old new session front reported clear shows preserved s before behind c request is held decoded len begins =
-    by_state old.state old.session new session front reported clear shows preserved s before behind c request is held decoded len begins
+pub decodes : (old new : ChainHandle) (session : Session) (front : List ℕ) (result : Decoded)
+    → ask_error old.state (length front) ≡ None → ShowsDecoded old.state session front result new → new.session ≡ session
+    → DecodesInRun old new session front result
+unfolding DecodesInRun
+decodes old new session front result clear shows kept s before behind c request is held decoded len begins =
+    by_state old.state old.session new session front result clear shows kept s before behind c request is held decoded len begins
 
 -- by its state, and its result
 pub decodes_from : (old new : ChainHandle) (session : Session) (front : List ℕ) (r : Result Decoded ChainError) (out : InFlight)
-    → old.state ≡ at.Taken out → OnOk r (ask_error (at.Taken out) (length front) ≡ None)
-    → IfOk r (λ reported. Shows (at.Taken out) session front reported new) → OnOk r (new.session ≡ session)
-    → IfOk r (λ reported. Decodes old new session front reported)
-decodes_from old new session front (Ok reported) out is clear shows preserved =
-    decodes old new session front reported (subst (λ (st : state.ChainState). ask_error st (length front) ≡ None) (sym is) clear)
-    (subst (λ (st : state.ChainState). Shows st session front reported new) (sym is) shows) preserved
-decodes_from old new session front (Err e) out is clear shows preserved = tt
+    → old.state ≡ at.Popped out → OnOk r (ask_error (at.Popped out) (length front) ≡ None)
+    → IfOk r (λ result. ShowsDecoded (at.Popped out) session front result new) → OnOk r (new.session ≡ session)
+    → IfOk r (λ result. DecodesInRun old new session front result)
+decodes_from old new session front (Ok result) out is clear shows kept =
+    decodes old new session front result (subst (λ (st : state.ChainState). ask_error st (length front) ≡ None) (sym is) clear)
+    (subst (λ (st : state.ChainState). ShowsDecoded st session front result new) (sym is) shows) kept
+decodes_from old new session front (Err e) out is clear shows kept = tt

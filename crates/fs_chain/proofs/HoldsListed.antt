@@ -14,17 +14,19 @@ use Rattle.server_phases.specs.declared.listing.ListingReply.{ListingReply}
 use Rattle.plain_machine.specs.Step.{Calls, answers_alone, calls_alone}
 use Rattle.live_machine.specs.Live.{Asked, InFlightChain, Phase, room_of, room_of_phase}
 use Rattle.live_machine.proofs.EachCall.{each_waits_first}
-use Rattle.fs_chain.specs.Holds.{IsDecodedIn, IsHeldIn, IsPastFirstCall, KeepsReplyOf, Machine, served_so, IsUnanswered}
-use Rattle.fs_chain.specs.HoldsListings.{AddingIs, AddsEntry, BeginsListing, EndsListing, FailsListing, HasListed, HoldsListing, IsLeftOut}
-use Rattle.fs_chain.specs.HoldsListings.{LeavesOut, ListingIsHeld, ListingCallIs, LooksUp, MayEnd, MayFail, ReadsDirectory, calls_left_out}
+use Rattle.fs_chain.specs.Holds.{IsDecodedIn, IsHeldIn, IsPastFirstCall, KeepsReplyOf, RunState, served_so, IsUnanswered}
+use Rattle.fs_chain.specs.HoldsListings.{AddingIs, AddsEntryInRun, BeginsListing, EndsListingInRun, FailsListingInRun, HasListed}
+use Rattle.fs_chain.specs.HoldsListings.{HoldsListing, IsLeftOut}
+use Rattle.fs_chain.specs.HoldsListings.{LeavesOut, ListingIsHeld, ListingCallIs, LooksUpEntries, MayEnd, MayFail, ReadsDirectory}
+use Rattle.fs_chain.specs.HoldsListings.{calls_left_out}
 use Rattle.fs_chain.specs.Listings.{AddsTo, EndsByEntries, EndsByError, IsFailedReply, IsListReply, RepliesBy, answered_by}
 use Rattle.fs_chain.specs.Orders.{front_len}
 use Rattle.fs_chain.specs.Walks.{IsAllButPlace}
 use Rattle.fs_chain.specs.ListingCalls.{Ending, EndsThere, FailsAt, FullAt, NotFound, Unreadable, calls_so_far, listing_calls}
 use Rattle.fs_chain.specs.declared.chain_handle.ChainHandle.{ChainHandle}
 use Rattle.fs_chain.specs.declared.error.ChainError.{ChainError}
-use Rattle.fs_chain.specs.declared.listing.Added.{Added}
-use Rattle.fs_chain.specs.declared.listing.Added.TheVariants as added
+use Rattle.fs_chain.specs.declared.listing.AddOutcome.{AddOutcome}
+use Rattle.fs_chain.specs.declared.listing.AddOutcome.TheVariants as added
 use Rattle.fs_chain.specs.declared.state.ChainReply.{ChainReply}
 use Rattle.fs_chain.specs.declared.state.ChainState as state
 use Rattle.fs_chain.specs.declared.state.ChainState.TheVariants as at
@@ -47,7 +49,7 @@ still_for l now room unique a stays is = (stays.0 ∙ is.0, stays.1 ∙ is.1, st
 
 -- the handle has the listing, as it is now
 pub held_as : (page_size : ℕ) (c : InFlightChain) (es more : List Brought) (calls : Calls) (list list' : List ℕ) (old new : ChainHandle)
-    (now : Listing) (h : HoldsListing page_size c es calls list old) → new.state ≡ at.Lists h.out now → StaysBut h.listing now
+    (now : Listing) (h : HoldsListing page_size c es calls list old) → new.state ≡ at.Listing h.out now → StaysBut h.listing now
     → Holds now list' more → new.session ≡ old.session → HoldsListing page_size c more calls list' new
 held_as page_size c es more calls list list' old new now h is stays holds session = record {
   out = h.out;
@@ -66,7 +68,8 @@ held_as page_size c es more calls list list' old new now h is stays holds sessio
 }
 
 -- an entry that isn't added
-left_by : (old new : ChainHandle) (list list' : List ℕ) (e : Brought) (why : Added) (page_size : ℕ) (c : InFlightChain) (es : List Brought)
+left_by : (old new : ChainHandle) (list list' : List ℕ) (e : Brought) (why : AddOutcome) (page_size : ℕ) (c : InFlightChain)
+    (es : List Brought)
     (calls : Calls) (isnt : why ≡ added.In → ⊥) → BringsEntry old list e (Ok why) new list' → HoldsListing page_size c es calls list old
     → list' ≡ list → new.state ≡ old.state
     → (held : HoldsListing page_size c es calls list new) × IsLeftOut why held.listing list e × (list' ≡ list)
@@ -78,9 +81,9 @@ left_by old new list list' e why page_size c es calls isnt brings h same still =
       same,
     )
 
-added_by : (old new : ChainHandle) (list list' : List ℕ) (e : Brought) (reported : Added) (page_size : ℕ) (c : InFlightChain)
-    (es : List Brought) (calls : Calls) → BringsEntry old list e (Ok reported) new list' → HoldsListing page_size c es calls list old
-    → AddingIs page_size c es calls list list' e new reported
+added_by : (old new : ChainHandle) (list list' : List ℕ) (e : Brought) (result : AddOutcome) (page_size : ℕ) (c : InFlightChain)
+    (es : List Brought) (calls : Calls) → BringsEntry old list e (Ok result) new list' → HoldsListing page_size c es calls list old
+    → AddingIs page_size c es calls list list' e new result
 added_by old new list list' e added.In page_size c es calls brings h =
     let one = brought old new list list' e added.In h.out h.listing h.state brings in
     held_as page_size c es (es ++ e ∷ []) calls list list' old new one.0 h one.1 one.2.stays (one.2.holds refl es h.holds) brings.1.2
@@ -97,12 +100,12 @@ added_by old new list list' e added.TooLong page_size c es calls brings h =
     left_by old new list list' e added.TooLong page_size c es calls (λ is. absurd (cc)) brings h (one.2.same not_added.TooLong refl).1
     (stays_so old new list list' e added.TooLong h.out h.listing not_added.TooLong refl one ∙ sym h.state)
 
-pub adds_entry : (old new : ChainHandle) (list list' : List ℕ) (e : Brought) (reported : Added)
-    → BringsEntry old list e (Ok reported) new list'
-    → AddsEntry old new list list' e reported
-unfolding AddsEntry
-adds_entry old new list list' e reported brings page_size c es calls h =
-    added_by old new list list' e reported page_size c es calls brings h
+pub adds_entry : (old new : ChainHandle) (list list' : List ℕ) (e : Brought) (result : AddOutcome)
+    → BringsEntry old list e (Ok result) new list'
+    → AddsEntryInRun old new list list' e result
+unfolding AddsEntryInRun
+adds_entry old new list list' e result brings page_size c es calls h =
+    added_by old new list list' e result page_size c es calls brings h
 
 -- ---- the end
 
@@ -119,12 +122,12 @@ ended : (page_size : ℕ) (c : InFlightChain) (es : List Brought) (ending : Endi
     → ServedBy (setting page_size h.options h.out.room_len) (Lists h.unique h.asked)
     (listing_calls (readdir_call h.asked) h.asked.with_nodes es ending) (reply.front ++ take reply.len list)
     → HasListed page_size c calls list h.request h.options h.out len new
-ended page_size c es ending calls list old new len reply h is reported state_is long serving =
+ended page_size c es ending calls list old new len reply h is result state_is long serving =
     let r = h.out.room_len in
     let s = setting page_size h.options r in
     let m = meaning h.options h.request r in
     let steps = listing_calls (readdir_call h.asked) h.asked.with_nodes es ending in
-    let preserved : ChainReply = record { front = Some reply.front; behind = reply.len } in
+    let kept : ChainReply = record { front = Some reply.front; behind = reply.len } in
     let whole = reply.front ++ take reply.len list in
     let by_steps : (served s m (answers_alone steps)).reply ≡ whole =
     ap (λ (x : Meaning). (served s x (answers_alone steps)).reply) h.means ∙ ap (λ (x : ServedMessage). x.reply) serving in
@@ -134,12 +137,12 @@ ended page_size c es ending calls list old new len reply h is reported state_is 
     ap (λ (x : Meaning). (served s x (answers_alone steps)).calls) h.means ∙ ap (λ (x : ServedMessage). x.calls) serving in
     let all_calls : (served s m (answers_alone calls)).calls ≡ calls_alone calls =
     ap (λ (x : Calls). (served s m (answers_alone x)).calls) is ∙ all_steps ∙ sym (ap (λ (x : Calls). calls_alone x) is) in
-    let len_is : front_len preserved + preserved.behind ≡ length (served s m (answers_alone calls)).reply =
+    let len_is : front_len kept + kept.behind ≡ length (served s m (answers_alone calls)).reply =
     ap (λ (n : ℕ). length reply.front + n) (sym long) ∙ sym (length-append reply.front (take reply.len list)) ∙ sym (ap length by_calls) in
-    let keeps : KeepsReplyOf (served s m (answers_alone calls)).reply h.out preserved = record {
+    let keeps : KeepsReplyOf (served s m (answers_alone calls)).reply h.out kept = record {
       behind = take reply.len list;
       bytes = by_calls;
-      len = isnt_cut h.out preserved (length (served s m (answers_alone calls)).reply) len_is (served_fits s m (answers_alone calls))
+      len = isnt_cut h.out kept (length (served s m (answers_alone calls)).reply) len_is (served_fits s m (answers_alone calls))
           h.is_out.small;
     } in
     let in_phase : IsHeldIn page_size c (Asked h.request h.options calls) new.state new.session =
@@ -147,9 +150,9 @@ ended page_size c es ending calls list old new len reply h is reported state_is 
     (h.is_out, keeps, past_first calls (served s m (answers_alone calls)) all_calls) in
     record {
       holds = subst (λ (p : Phase). IsHeldIn page_size c p new.state new.session) (sym h.phase) in_phase;
-      preserved = preserved;
+      kept = kept;
       state = state_is;
-      reply = by_calls ∙ ap (λ (n : ℕ). reply.front ++ take n list) (sym reported);
+      reply = by_calls ∙ ap (λ (n : ℕ). reply.front ++ take n list) (sym result);
       none_pending =
           ap (λ (n : ℕ). (served_so page_size h.options h.request n calls).calls) h.is_out.room_len ∙ all_calls;
     }
@@ -160,14 +163,14 @@ len_in (Err e) = 0
 
 -- a listing that gathers has its reply
 abbrev IsReplied : (Listing → ListingReply → Type 0) → InFlight → Listing → (len : ℕ) → (new : state.ChainState) → Type 0
-IsReplied P out l len new = RepliesBy P (at.Lists out l) new (Ok len)
+IsReplied P out l len new = RepliesBy P (at.Listing out l) new (Ok len)
 
 replied_at : (P : Listing → ListingReply → Type 0) (st new : state.ChainState) (out : InFlight) (l : Listing) (len : ℕ) →
-    st ≡ at.Lists out l → RepliesBy P st new (Ok len) → IsReplied P out l len new
+    st ≡ at.Listing out l → RepliesBy P st new (Ok len) → IsReplied P out l len new
 replied_at P st new out l len is replies = subst (λ (s : state.ChainState). RepliesBy P s new (Ok len)) is replies
 
-pub ends_listing : (old new : ChainHandle) (len : ℕ) → EndsByEntries old.state new.state (Ok len) → EndsListing old new len
-unfolding EndsListing
+pub ends_listing : (old new : ChainHandle) (len : ℕ) → EndsByEntries old.state new.state (Ok len) → EndsListingInRun old new len
+unfolding EndsListingInRun
 ends_listing old new len ends page_size c es ending calls list h may is = by_ending ending may is
   where
     s : Setting
@@ -196,8 +199,8 @@ ends_listing old new len ends page_size c es ending calls list h may is = by_end
     by_ending (Unreadable error) may is = absurd may
 
 pub fails_listing : (errno : ℕ) (old new : ChainHandle) (len : ℕ) → EndsByError errno old.state new.state (Ok len) →
-    FailsListing errno old new len
-unfolding FailsListing
+    FailsListingInRun errno old new len
+unfolding FailsListingInRun
 fails_listing errno old new len ends page_size c es ending calls list h may is = by_ending ending may is
   where
     s : Setting
@@ -238,7 +241,7 @@ fails_listing errno old new len ends page_size c es ending calls list h may is =
 -- ---- the file calls
 
 begun_in : (page_size : ℕ) (c : InFlightChain) (p : Phase) (w : ChainHandle) (out : InFlight) (l : Listing) (list : List ℕ) → c.phase ≡ p
-    → w.state ≡ at.Lists out l → IsHeldIn page_size c p (at.Lists out l) w.session → IsUnanswered p (at.Lists out l)
+    → w.state ≡ at.Listing out l → IsHeldIn page_size c p (at.Listing out l) w.session → IsUnanswered p (at.Listing out l)
     → HoldsListing page_size c [] [] list w
 begun_in page_size c (Asked request options calls) w out l list phase is held fresh =
     record {
@@ -285,12 +288,12 @@ gathered_in : (page_size options : ℕ) (c : InFlightChain) (w : ChainHandle) (r
     → ((room : ℕ) → length (addresses_of (writable c.descriptors)) ≡ room → meaning options request room ≡ Asks (Lists unique asked))
     → IsHeldIn page_size c (Asked request options []) st w.session → IsUnanswered (Asked request options []) st
     → HoldsListing page_size c [] [] list w
-gathered_in page_size options c w request list unique asked (at.Lists out l) is phase means held fresh =
+gathered_in page_size options c w request list unique asked (at.Listing out l) is phase means held fresh =
     begun_in page_size c (Asked request options []) w out l list phase is held fresh
-gathered_in page_size options c w request list unique asked (at.Waits out waiting) is phase means held fresh =
+gathered_in page_size options c w request list unique asked (at.Decoded out waiting) is phase means held fresh =
     absurd (none_waits (meaning options request out.room_len) unique asked held.4.0 (means out.room_len held.0.room_len) held.4.1
     (held.5 held.4.0 held.4.4))
-gathered_in page_size options c w request list unique asked (at.HasReply out preserved) is phase means held fresh =
+gathered_in page_size options c w request list unique asked (at.Replied out kept) is phase means held fresh =
     absurd (has_call page_size options request out.room_len unique asked (means out.room_len held.0.room_len) held.2)
 gathered_in page_size options c w request list unique asked (at.Pushing out) is phase means held fresh =
     absurd (has_call page_size options request out.room_len unique asked (means out.room_len held.0.room_len) held.1)
@@ -306,11 +309,11 @@ gathers_decoded page_size options c w request list unique asked phase means held
 pub listing_is_held : ListingIsHeld
 listing_is_held page_size c es calls list w h =
     subst (λ (st : state.ChainState). IsHeldIn page_size c c.phase st w.session) (sym h.state)
-    (subst (λ (p : Phase). IsHeldIn page_size c p (at.Lists h.out h.listing) w.session) (sym h.phase)
+    (subst (λ (p : Phase). IsHeldIn page_size c p (at.Listing h.out h.listing) w.session) (sym h.phase)
     (h.is_out, h.session, h.unique, h.asked, h.means, h.is_for, es, list, h.holds))
 
 -- a call that waits is answered
-answered : (s : Machine) (before behind : List InFlightChain) (c : InFlightChain) (es : List Brought) (list : List ℕ) (w : ChainHandle)
+answered : (s : RunState) (before behind : List InFlightChain) (c : InFlightChain) (es : List Brought) (list : List ℕ) (w : ChainHandle)
     (earlier : Calls) (call : FileCall) (answer : FileAnswer) (h : HoldsListing s.page_size c es earlier list w)
     → s.chains ≡ before ++ c ∷ behind
     → (served (setting s.page_size h.options h.out.room_len) (Asks (Lists h.unique h.asked)) (answers_alone earlier)).calls
@@ -363,7 +366,7 @@ reads_directory s before behind c es list w answer out h fits =
     answered s before behind c es list w [] (readdir_call h.asked) answer h out refl fits
 
 -- one of the calls that are served first
-among_first : (s : Machine) (before behind : List InFlightChain) (c : InFlightChain) (es : List Brought) (list : List ℕ) (w : ChainHandle)
+among_first : (s : RunState) (before behind : List InFlightChain) (c : InFlightChain) (es : List Brought) (list : List ℕ) (w : ChainHandle)
     (all earlier later : Calls) (call : FileCall) (answer : FileAnswer) (h : HoldsListing s.page_size c es earlier list w)
     → s.chains ≡ before ++ c ∷ behind
     → AreServedFirst (setting s.page_size h.options h.out.room_len) (Asks (Lists h.unique h.asked)) all
@@ -375,7 +378,7 @@ among_first s before behind c es list w all earlier later call answer h out firs
     let split : AreServedFirst set m (earlier ++ (call, answer) ∷ later) = subst (λ (cs : Calls). AreServedFirst set m cs) are first in
     answered s before behind c es list w earlier call answer h out (each_waits_first set m earlier later call answer split.0 split.1) fits
 
-pub looks_up : LooksUp
+pub looks_up : LooksUpEntries
 looks_up s before behind c es others next list w earlier later call answer out h are fits =
     among_first s before behind c es list w (calls_so_far (readdir_call h.asked) h.asked.with_nodes es others next) earlier later call
     answer h
@@ -392,24 +395,24 @@ leaves_out s before behind c es e others why list w earlier later call answer ou
 
 -- ---- by what each method ensures
 
-pub added_plain_from : (old new : ChainHandle) (list list' : List ℕ) (e : Brought) (r : Result Added ChainError)
+pub added_plain_from : (old new : ChainHandle) (list list' : List ℕ) (e : Brought) (r : Result AddOutcome ChainError)
     → (AddsTo old.state new.state list list' e (λ l. added_plain l (length list) (length e.0.name)) r) → IsAllButPlace old new
-    → IfOk r (λ reported. AddsEntry old new list list' e reported)
-added_plain_from old new list list' e (Ok reported) adds stays = adds_entry old new list list' e reported (inl adds, stays)
+    → IfOk r (λ result. AddsEntryInRun old new list list' e result)
+added_plain_from old new list list' e (Ok result) adds stays = adds_entry old new list list' e result (inl adds, stays)
 added_plain_from old new list list' e (Err x) adds stays = tt
 
-pub added_found_from : (old new : ChainHandle) (list list' : List ℕ) (e : Brought) (r : Result Added ChainError)
+pub added_found_from : (old new : ChainHandle) (list list' : List ℕ) (e : Brought) (r : Result AddOutcome ChainError)
     → (AddsTo old.state new.state list list' e (λ l. added_found l (length list) (length e.0.name)) r) → IsAllButPlace old new
-    → IfOk r (λ reported. AddsEntry old new list list' e reported)
-added_found_from old new list list' e (Ok reported) adds stays = adds_entry old new list list' e reported (inr adds, stays)
+    → IfOk r (λ result. AddsEntryInRun old new list list' e result)
+added_found_from old new list list' e (Ok result) adds stays = adds_entry old new list list' e result (inr adds, stays)
 added_found_from old new list list' e (Err x) adds stays = tt
 
 pub ended_from : (old new : ChainHandle) (r : Result ℕ ChainError) → EndsByEntries old.state new.state r →
-    IfOk r (λ len. EndsListing old new len)
+    IfOk r (λ len. EndsListingInRun old new len)
 ended_from old new (Ok len) ends = ends_listing old new len ends
 ended_from old new (Err x) ends = tt
 
 pub failed_from : (errno : ℕ) (old new : ChainHandle) (r : Result ℕ ChainError) → EndsByError errno old.state new.state r →
-    IfOk r (λ len. FailsListing errno old new len)
+    IfOk r (λ len. FailsListingInRun errno old new len)
 failed_from errno old new (Ok len) ends = fails_listing errno old new len ends
 failed_from errno old new (Err x) ends = tt

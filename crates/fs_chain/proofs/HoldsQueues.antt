@@ -6,7 +6,7 @@ use Rattle.fs_queue.specs.WalkingView.{at_position}
 use Rattle.fs_queue.specs.declared.layout.QueueLayout.{QueueLayout}
 use Rattle.fs_regions.specs.Walks.{queue_of}
 use Rattle.fs_regions.specs.declared.course.Course.{Course}
-use Rattle.fs_chain.specs.Orders.{begin_error, front_len, give_error, return_error}
+use Rattle.fs_chain.specs.Orders.{begin_error, front_len, give_error, push_refusal}
 use Rattle.live_machine.specs.Several.{LiveQueue}
 use Rattle.fs_chain.specs.Holds.{IsPopOf, Pop, pop_of}
 use Rattle.fs_chain.specs.Queues.{SameEventIndex, fits_pop, in_flight, is_in_flight_of, is_laid_out, live_of, may_take}
@@ -51,10 +51,10 @@ push_tests false b c is = absurd (none_some error.OtherQueue (sym is))
 push_tests true b c is = refl
 
 -- a chain that is pushed has its queue's layout
-pub pushed_there : (q : QueueState) (out : InFlight) (preserved : ChainReply) (len position : ℕ) →
-    return_error (at.HasReply out preserved) q len ≡ None → at_position q.layout position ≡ at_position out.course.layout position
-pushed_there q out preserved len position clear =
-    let mine : is_in_flight_of q out ≡ true = push_tests (is_in_flight_of q out) q.pushing (nat_lt len (front_len preserved)) clear in
+pub pushed_there : (q : QueueState) (out : InFlight) (kept : ChainReply) (len position : ℕ) →
+    push_refusal (at.Replied out kept) q len ≡ None → at_position q.layout position ≡ at_position out.course.layout position
+pushed_there q out kept len position clear =
+    let mine : is_in_flight_of q out ≡ true = push_tests (is_in_flight_of q out) q.pushing (nat_lt len (front_len kept)) clear in
     same_layout q.layout out.course.layout position
     (and_parts (not (in_flight q == 0) && q.reset_count == out.pop_id.reset_count) (is_laid_out q.layout out.course.layout) mine).1
 

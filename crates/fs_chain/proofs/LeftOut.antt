@@ -13,8 +13,8 @@ use Rattle.server_phases.specs.declared.listing.NotAdded.TheVariants as not_adde
 use Rattle.server_phases.proofs.Gathered.{listed_all}
 use Rattle.fs_chain.specs.Listings.{Adds}
 use Rattle.fs_chain.specs.ListingCalls.{all_looked_up, looked_up, node_back}
-use Rattle.fs_chain.specs.declared.listing.Added.{Added}
-use Rattle.fs_chain.specs.declared.listing.Added.TheVariants as added
+use Rattle.fs_chain.specs.declared.listing.AddOutcome.{AddOutcome}
+use Rattle.fs_chain.specs.declared.listing.AddOutcome.TheVariants as added
 use Rattle.fs_chain.proofs.ListingEntries.{outcome_of}
 use Rattle.plain_machine.specs.Step.{Calls, answers_alone, calls_alone}
 use Rattle.fs_chain.specs.HoldsListings.{IsLeftOut, calls_left_out}
@@ -97,7 +97,7 @@ module _ (s : Setting) (l : Listing) (unique : ℕ) (a : asked.ListRequest) (lis
         ∙ sym (append-nil (calls_alone (calls_left_out (readdir_call a) a.with_nodes es e others))),
   )
 
-  pub left_out_served : (why : Added) → IsLeftOut why l list e
+  pub left_out_served : (why : AddOutcome) → IsLeftOut why l list e
       → AreServedFirst s (Asks (Lists unique a)) (calls_left_out (readdir_call a) a.with_nodes es e others)
   left_out_served added.In left = absurd left
   left_out_served added.Full left =
@@ -112,7 +112,7 @@ module _ (s : Setting) (l : Listing) (unique : ℕ) (a : asked.ListRequest) (lis
       out_served (ap (λ (k : ServedMessage). k.calls) (left s (Lists unique a) es others (answers_alone back) is holds))
 
 -- what is said of an entry that isn't added
-pub left_so : (l now : Listing) (list list' : List ℕ) (e : Brought) (why : Added) → Adds l now list list' e (outcome_of why)
+pub left_so : (l now : Listing) (list list' : List ℕ) (e : Brought) (why : AddOutcome) → Adds l now list list' e (outcome_of why)
     → (why ≡ added.In → ⊥) → IsLeftOut why l list e
 left_so l now list list' e added.In adds isnt = absurd (isnt refl)
 left_so l now list list' e added.Full adds isnt = adds.full refl

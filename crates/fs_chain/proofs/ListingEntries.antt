@@ -20,13 +20,13 @@ use Rattle.server_phases.specs.Gathering.{Brought, EndsList, FailsList, Holds, I
 use Rattle.server_phases.specs.Gathering.{bytes_of, entries_of, found_of, is_looked_up, look_up, look_ups, forget_listed, node_of}
 use Rattle.server_phases.proofs.Gathered.{length_entry, listed_all}
 use Rattle.fs_chain.specs.declared.error.ChainError.{ChainError}
-use Rattle.fs_chain.specs.declared.listing.Added.{Added}
-use Rattle.fs_chain.specs.declared.listing.Added.TheVariants as added
+use Rattle.fs_chain.specs.declared.listing.AddOutcome.{AddOutcome}
+use Rattle.fs_chain.specs.declared.listing.AddOutcome.TheVariants as added
 use Rattle.fs_chain.specs.declared.state.InFlight.{InFlight}
 use Rattle.fs_chain.specs.declared.state.ChainState as state
 use Rattle.fs_chain.specs.declared.state.ChainState.TheVariants as at
 use Rattle.fs_chain.specs.declared.chain_handle.ChainHandle.{ChainHandle}
-use Rattle.fs_chain.specs.Listings.{Adds, AddsTo, IsFailedReply, IsListReply, reported_added}
+use Rattle.fs_chain.specs.Listings.{Adds, AddsTo, IsFailedReply, IsListReply, added_of}
 use Rattle.plain_machine.specs.Step.{Calls, answers_alone, calls_alone}
 use Rattle.fs_chain.specs.ListingCalls.{EndsThere, FailsAt, FullAt, NotFound}
 use Rattle.fs_chain.specs.ListingCalls.{all_looked_up, listing_calls, looked_up, node_back, unreadable_calls}
@@ -35,47 +35,48 @@ use Rattle.fs_chain.specs.Walks.{IsAllButPlace}
 -- ---- what was told of an entry
 
 -- the caller adds an entry, with or without its node, to the listing that is being answered, in a list of
--- the caller's; the result is `reported`
-abbrev pub BringsEntry : ChainHandle → (list : List ℕ) → Brought → Result Added ChainError → ChainHandle →
+-- the caller's; the answer to it is `result`
+abbrev pub BringsEntry : ChainHandle → (list : List ℕ) → Brought → Result AddOutcome ChainError → ChainHandle →
     (list' : List ℕ) → Type 0
-BringsEntry w list e reported w' list' =
-    (AddsTo w.state w'.state list list' e (λ l. added_plain l (length list) (length e.0.name)) reported
-    ⊎ AddsTo w.state w'.state list list' e (λ l. added_found l (length list) (length e.0.name)) reported)
+BringsEntry w list e result w' list' =
+    (AddsTo w.state w'.state list list' e (λ l. added_plain l (length list) (length e.0.name)) result
+    ⊎ AddsTo w.state w'.state list list' e (λ l. added_found l (length list) (length e.0.name)) result)
     × IsAllButPlace w w'
 
-abbrev pub Outcome : Type 0
-Outcome = Result (Unit {0}) reason.NotAdded
+abbrev pub AddedOutcome : Type 0
+AddedOutcome = Result (Unit {0}) reason.NotAdded
 
 -- why it isn't in, if it isn't
-abbrev pub outcome_of : Added → Outcome
+abbrev pub outcome_of : AddOutcome → AddedOutcome
 outcome_of added.In = Ok tt
 outcome_of added.Full = Err not_added.Full
 outcome_of added.NoRoom = Err not_added.NoRoom
 outcome_of added.TooLong = Err not_added.TooLong
 
-abbrev outcome_in : Result Added ChainError → Outcome
+abbrev outcome_in : Result AddOutcome ChainError → AddedOutcome
 outcome_in (Ok a) = outcome_of a
 outcome_in (Err e) = Err not_added.OtherKind
 
-outcome_is : (r : Outcome) (a : Added) → Ok a ≡ reported_added r → r ≡ outcome_of a
-outcome_is (Err not_added.OtherKind) a reported = absurd (cc)
-outcome_is (Err not_added.ShortList) a reported = absurd (cc)
-outcome_is r a reported = sym (ap outcome_in reported)
+outcome_is : (r : AddedOutcome) (a : AddOutcome) → Ok a ≡ added_of r → r ≡ outcome_of a
+outcome_is (Err not_added.OtherKind) a result = absurd (cc)
+outcome_is (Err not_added.ShortList) a result = absurd (cc)
+outcome_is r a result = sym (ap outcome_in result)
 
 -- an entry was brought to a listing, of which this was told
-abbrev pub IsBrought : InFlight → Listing → (new : state.ChainState) → (list list' : List ℕ) → Brought → Added → Type 0
-IsBrought out l new list list' e a = (now : Listing) × (new ≡ at.Lists out now) × Adds l now list list' e (outcome_of a)
+abbrev pub IsBrought : InFlight → Listing → (new : state.ChainState) → (list list' : List ℕ) → Brought → AddOutcome → Type 0
+IsBrought out l new list list' e a = (now : Listing) × (new ≡ at.Listing out now) × Adds l now list list' e (outcome_of a)
 
-brought_by : (st new : state.ChainState) (list list' : List ℕ) (e : Brought) (a : Added) (out : InFlight) (l : Listing) (outcome : Listing
-    → Outcome) → st ≡ at.Lists out l
+brought_by : (st new : state.ChainState) (list list' : List ℕ) (e : Brought) (a : AddOutcome) (out : InFlight) (l : Listing)
+    (outcome : Listing
+    → AddedOutcome) → st ≡ at.Listing out l
     → AddsTo st new list list' e outcome (Ok a) → IsBrought out l new list list' e a
 brought_by st new list list' e a out l outcome is adds =
-    let there : AddsTo (at.Lists out l) new list list' e outcome (Ok a) =
+    let there : AddsTo (at.Listing out l) new list list' e outcome (Ok a) =
     subst (λ (s : state.ChainState). AddsTo s new list list' e outcome (Ok a)) is adds in
-    (there.1.0, there.1.1, subst (λ (r : Outcome). Adds l there.1.0 list list' e r) (outcome_is (outcome l) a there.0) there.1.2)
+    (there.1.0, there.1.1, subst (λ (r : AddedOutcome). Adds l there.1.0 list list' e r) (outcome_is (outcome l) a there.0) there.1.2)
 
 brought_either :
-    (st new : state.ChainState) (list list' : List ℕ) (e : Brought) (a : Added) (out : InFlight) (l : Listing) → st ≡ at.Lists out l
+    (st new : state.ChainState) (list list' : List ℕ) (e : Brought) (a : AddOutcome) (out : InFlight) (l : Listing) → st ≡ at.Listing out l
     → (AddsTo st new list list' e (λ l. added_plain l (length list) (length e.0.name)) (Ok a)
     ⊎ AddsTo st new list list' e (λ l. added_found l (length list) (length e.0.name)) (Ok a)) → IsBrought out l new list list' e a
 brought_either st new list list' e a out l is (inl plain) =
@@ -83,16 +84,18 @@ brought_either st new list list' e a out l is (inl plain) =
 brought_either st new list list' e a out l is (inr found) =
     brought_by st new list list' e a out l (λ l. added_found l (length list) (length e.0.name)) is found
 
-pub brought : (w w' : ChainHandle) (list list' : List ℕ) (e : Brought) (a : Added) (out : InFlight) (l : Listing) → w.state ≡ at.Lists out l
+pub brought : (w w' : ChainHandle) (list list' : List ℕ) (e : Brought) (a : AddOutcome) (out : InFlight) (l : Listing) →
+    w.state ≡ at.Listing out l
     → BringsEntry w list e (Ok a) w' list'
     → IsBrought out l w'.state list list' e a
 brought w w' list list' e a out l is brings = brought_either w.state w'.state list list' e a out l is brings.0
 
 -- one that isn't in leaves the listing as it was
-pub stays_so : (w w' : ChainHandle) (list list' : List ℕ) (e : Brought) (a : Added) (out : InFlight) (l : Listing) (why : reason.NotAdded)
+pub stays_so : (w w' : ChainHandle) (list list' : List ℕ) (e : Brought) (a : AddOutcome) (out : InFlight) (l : Listing)
+    (why : reason.NotAdded)
     → outcome_of a ≡ Err why
-    → IsBrought out l w'.state list list' e a → (w'.state ≡ at.Lists out l)
-stays_so w w' list list' e a out l why isnt one = one.1 ∙ ap (λ (k : Listing). at.Lists out k) (one.2.same why isnt).0
+    → IsBrought out l w'.state list list' e a → (w'.state ≡ at.Listing out l)
+stays_so w w' list list' e a out l why isnt one = one.1 ∙ ap (λ (k : Listing). at.Listing out k) (one.2.same why isnt).0
 
 -- ---- the calls and their answers
 
@@ -334,7 +337,7 @@ module _ (s : Setting) (l : Listing) (unique : ℕ) (a : asked.ListRequest) (lis
       let all = listed_behind [] [] [] None (λ left room. none_left a left room) in
       let entries : list_entries a (entries_of es) a.size (s.room - 16) (all_found a.with_nodes es)
       ≡ yielded (look_ups command es) bytes None = simp append-nil at all in
-      let reported : listing_bytes l.unique l.with_nodes (all_bytes l.with_nodes es) (Some errno) ≡ reply_bytes unique bytes =
+      let bytes_are : listing_bytes l.unique l.with_nodes (all_bytes l.with_nodes es) (Some errno) ≡ reply_bytes unique bytes =
       ap (λ (u : ℕ). listing_bytes u l.with_nodes (all_bytes l.with_nodes es) (Some errno)) is.0
       ∙ ap (λ (b : Bool). listing_bytes unique b (all_bytes b es) (Some errno)) is.1 ∙ held_bytes a.with_nodes unique errno bytes some in
       served_so s command (listing_calls (readdir_call a) a.with_nodes es EndsThere)
@@ -344,7 +347,7 @@ module _ (s : Setting) (l : Listing) (unique : ℕ) (a : asked.ListRequest) (lis
       (ap (λ (x : List FileCall). readdir_call a ∷ x) (found_calls unique a es))
       (ap (λ (x : ListingResult). list_ended s unique a x) entries
       ∙ whole_reply s.room s.options calls (reply_bytes unique bytes) (omega (arith, head, len, room, fits, place))
-      ∙ ap (λ (x : List ℕ). by_reply calls s.options x) (sym (failed.bytes list es holds ∙ reported)))
+      ∙ ap (λ (x : List ℕ). by_reply calls s.options x) (sym (failed.bytes list es holds ∙ bytes_are)))
 
 pub unreadable : (s : Setting) (l : Listing) (unique : ℕ) (a : asked.ListRequest) (list : List ℕ) (es : List Brought) (b : Bool) (errno : ℕ)
     (reply : ListingReply)

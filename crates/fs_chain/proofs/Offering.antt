@@ -14,9 +14,9 @@ use Rattle.fs_regions.specs.Places.{Mapped, memory_over, places_in}
 use Rattle.fs_regions.specs.Walks.{Loaded, OffersBy}
 use Rattle.live_machine.specs.Live.{EndsPopIn, EndsPopSo, after_pop, pop_refusal}
 use Rattle.live_machine.specs.Several.{LiveQueue}
-use Rattle.fs_chain.specs.Holds.{IsQueue, Machine, live_of}
+use Rattle.fs_chain.specs.Holds.{IsRunQueue, RunState, live_of}
 use Rattle.fs_chain.specs.Laws.{IsOfferOf, WalksAreOffers}
-use Rattle.fs_chain.specs.Walks.{reported_of}
+use Rattle.fs_chain.specs.Walks.{outcome_of}
 use Rattle.fs_chain.specs.declared.popping.PopOutcome as walked
 use Rattle.fs_chain.specs.declared.queue.QueueState.{QueueState}
 
@@ -30,13 +30,13 @@ runs_on false x is = refl
 runs_on true x is = cc
 
 -- it is the run's
-pub ended_queue : (s : Machine) (i : ℕ) (q : QueueState) (loaded : Loaded) (ds : List Descriptor) (came : comes.CourseStep)
-    (after : Machine) → IsQueue s i q → (e : EndsPopSo s i loaded ds came after) → e.w ≡ live_of q
+pub ended_queue : (s : RunState) (i : ℕ) (q : QueueState) (loaded : Loaded) (ds : List Descriptor) (came : comes.CourseStep)
+    (after : RunState) → IsRunQueue s i q → (e : EndsPopSo s i loaded ds came after) → e.w ≡ live_of q
 ended_queue s i q loaded ds came after there e = same_live (slice_get s.queues i) (live_of q) e.w there e.there
 
 -- and isn't stopped
-pub ended_runs : (s : Machine) (i : ℕ) (q : QueueState) (loaded : Loaded) (ds : List Descriptor) (came : comes.CourseStep)
-    (after : Machine) → IsQueue s i q → EndsPopSo s i loaded ds came after → (live_of q).queue.stopped ≡ false
+pub ended_runs : (s : RunState) (i : ℕ) (q : QueueState) (loaded : Loaded) (ds : List Descriptor) (came : comes.CourseStep)
+    (after : RunState) → IsRunQueue s i q → EndsPopSo s i loaded ds came after → (live_of q).queue.stopped ≡ false
 ended_runs s i q loaded ds came after there e =
     runs_on (live_of q).queue.stopped _ (subst (λ (v : LiveQueue). pop_refusal s.places v ≡ None)
     (ended_queue s i q loaded ds came after there e) e.proceeds)
@@ -53,7 +53,7 @@ unasked m q loaded request has = record {
 }
 
 -- how a pop ends is offered, as it is reported
-module _ (law : OffersAreTheMemorys) (s : Machine) (i : ℕ) (w : LiveQueue) (h : Host) (regions : Mapped) (loaded : Loaded)
+module _ (law : OffersAreTheMemorys) (s : RunState) (i : ℕ) (w : LiveQueue) (h : Host) (regions : Mapped) (loaded : Loaded)
     (ds : List Descriptor) (runs : w.queue.stopped ≡ false) (places : s.places ≡ places_in regions) where
   is_offer : (request : List ℕ) (o : Offer) → OffersBy s.places s.limit w.queue loaded request o
       → HasLoaded (memory_over h regions) w.queue loaded request → offer (memory_over h regions) s.limit w.queue ≡ o
@@ -61,9 +61,9 @@ module _ (law : OffersAreTheMemorys) (s : Machine) (i : ℕ) (w : LiveQueue) (h 
       let here = subst (λ (m : Memory). OffersBy m s.limit w.queue loaded request o) places by in
       sym (law h regions s.limit w.queue loaded request o runs here has)
 
-  ends_so : (came : comes.CourseStep) (request : List ℕ) (after : Machine) → EndsPopIn s i w loaded ds came after
+  ends_so : (came : comes.CourseStep) (request : List ℕ) (after : RunState) → EndsPopIn s i w loaded ds came after
       → HasLoaded (memory_over h regions) w.queue loaded request
-      → IsOfferOf ds (reported_of ds came) request (offer (memory_over h regions) s.limit w.queue)
+      → IsOfferOf ds (outcome_of ds came) request (offer (memory_over h regions) s.limit w.queue)
   ends_so step.Idle request after ends has = is_offer [] _ ends.0 (unasked (memory_over h regions) w.queue loaded request has)
   ends_so (step.Refused e) request after ends has = is_offer [] _ ends.0 (unasked (memory_over h regions) w.queue loaded request has)
   ends_so (step.Chain head (Some fault)) request after ends has =
@@ -72,7 +72,7 @@ module _ (law : OffersAreTheMemorys) (s : Machine) (i : ℕ) (w : LiveQueue) (h 
   ends_so _ request after ends has = absurd ends
 
 pub walks_are_offers : OffersAreTheMemorys → WalksAreOffers
-walks_are_offers law s i q q' loaded new reported h regions request there ends places has =
+walks_are_offers law s i q q' loaded new result h regions request there ends places has =
     let w = live_of q in
     let ds = new.descriptors.items in
     let e = ends.happens in
@@ -80,5 +80,5 @@ walks_are_offers law s i q q' loaded new reported h regions request there ends p
     let runs = ended_runs s i q loaded ds ends.came end there e in
     let so : EndsPopIn s i w loaded ds ends.came end =
     subst (λ (v : LiveQueue). EndsPopIn s i v loaded ds ends.came end) (ended_queue s i q loaded ds ends.came end there e) e.ends in
-    subst (λ (t : walked.PopOutcome). IsOfferOf ds t request (offer (memory_over h regions) s.limit w.queue)) (sym ends.reported_is)
+    subst (λ (t : walked.PopOutcome). IsOfferOf ds t request (offer (memory_over h regions) s.limit w.queue)) (sym ends.outcome_is)
     (ends_so law s i w h regions loaded ds runs places ends.came request end so has)

@@ -31,20 +31,20 @@ use Rattle.fs_chain.specs.declared.chain_handle.ChainHandle.{ChainHandle}
 use Rattle.fs_chain.specs.Ahead.{IsWantedLoad, PopsAhead, StopsAt, WalksAhead}
 use Rattle.fs_chain.specs.Events.{event_fault, event_miss}
 use Rattle.fs_chain.specs.Loads.{whole}
-use Rattle.fs_chain.specs.Orders.{IfWalking, give_error, load_len, walk_error}
+use Rattle.fs_chain.specs.Orders.{IfPopping, give_error, load_len, walk_error}
 use Rattle.fs_chain.specs.Queues.{fits_pop, may_take, pop_id_of}
-use Rattle.fs_chain.specs.Walks.{BeginsPop, BeginsUnless, Continues, IsAllButPart, LacksEvents, KeepsStep, StaysForLoad, WalksFrom}
+use Rattle.fs_chain.specs.Walks.{BeginsPop, BeginsUnless, ContinuesWalk, IsAllButPart, LacksEvents, KeepsStep, StaysForLoad, WalksFrom}
 use Rattle.fs_chain.specs.Walks.{WalksOn, course_of, left_of, state_after}
 use Rattle.fs_chain.specs.Pops.{BeginsPopBy}
 use Rattle.fs_chain.proofs.Steps.{begins_where, by_left, comes_left, walks_on}
 
 -- a pop begins in a free handle
-pub begins_free : (w w' : ChainHandle) (q q' : QueueState) (reported : walked.PopOutcome) → w.state ≡ at.Free → may_take q ≡ true
-    → w'.part.items ≡ [] → w'.session ≡ w.session → BeginsPop w w' q q' reported → BeginsPopBy w w' q q' (proceeds.On reported)
-begins_free w w' q q' reported free may part session begins =
+pub begins_free : (w w' : ChainHandle) (q q' : QueueState) (result : walked.PopOutcome) → w.state ≡ at.Free → may_take q ≡ true
+    → w'.part.items ≡ [] → w'.session ≡ w.session → BeginsPop w w' q q' result → BeginsPopBy w w' q q' (proceeds.On result)
+begins_free w w' q q' result free may part session begins =
     let Q : state.ChainState → Type 0 = λ s.
     (walk_error s q (length (if load_len s == 0 then [] else w.part.items ++ [])) ≡ None)
-    × WalksFrom s (if load_len s == 0 then [] else w.part.items ++ []) w w' q q' reported in
+    × WalksFrom s (if load_len s == 0 then [] else w.part.items ++ []) w w' q q' result in
     let none : Q at.Free = (ap (λ (b : Bool). if not b then Some ChainInFlight else None) may, begins) in
     let rest = subst Q (sym free) none in
     (free, (inl (ap load_len free), part, session, rest.0, rest.1))
@@ -53,7 +53,7 @@ begins_free w w' q q' reported free may part session begins =
 abbrev mid : (w w' : ChainHandle) → QueueState → QueueWalk → List Descriptor → ChainHandle
 mid w w' q walk ds =
     record w {
-      state = at.Walking (course_of q w.limit) (pop_id_of w.regions q) walk;
+      state = at.Popping (course_of q w.limit) (pop_id_of w.regions q) walk;
       descriptors = record { items = ds; capacity = 0 };
       part = w'.part;
     }
@@ -121,32 +121,32 @@ wanted w w' q walk ds l part is =
 
 -- a pop at this step, with these descriptors, is calls of `pop`, which end with what the handle keeps of the step
 pub walks_ahead : (w w' : ChainHandle) (q q' : QueueState) (taken : List AheadBytes) (ds : List Descriptor) (s : comes.CourseStep)
-    (reported : walked.PopOutcome) → w.state ≡ at.Free → q.stopped ≡ None → event_fault (places_in w.regions) q ≡ None → may_take q ≡ true
+    (result : walked.PopOutcome) → w.state ≡ at.Free → q.stopped ≡ None → event_fault (places_in w.regions) q ≡ None → may_take q ≡ true
     → StepsAhead w.regions w.limit (queue_of (course_of q w.limit)) taken ds s
-    → KeepsStep (course_of q w.limit) (pop_id_of w.regions q) s w w' q q' reported → w'.descriptors.items ≡ left_of s ds
+    → KeepsStep (course_of q w.limit) (pop_id_of w.regions q) s w w' q q' result → w'.descriptors.items ≡ left_of s ds
     → w'.part.items ≡ []
-    → w'.session ≡ w.session → WalksAhead taken w w' q q' (proceeds.On reported)
-walks_ahead w w' q q' [] ds s reported free runs events may at keeps left part session =
+    → w'.session ≡ w.session → WalksAhead taken w w' q q' (proceeds.On result)
+walks_ahead w w' q q' [] ds s result free runs events may at keeps left part session =
     let course = course_of q w.limit in
     let here = comes_left (places_in w.regions) w.limit (queue_of course) nothing ds s at in
     let P : List Descriptor → Type 0 = λ xs. IsCourseStep (places_in w.regions) w.limit (queue_of course) nothing xs s in
     let there = subst P (sym left) here in
-    begins_free w w' q q' reported free may part session (begins_where w w' q q' reported None runs (sym events) (s, keeps, there))
-walks_ahead w w' q q' (l ∷ taken) ds s reported free runs events may (walk, before, at, is, long, by) keeps left part session =
+    begins_free w w' q q' result free may part session (begins_where w w' q q' result None runs (sym events) (s, keeps, there))
+walks_ahead w w' q q' (l ∷ taken) ds s result free runs events may (walk, before, at, is, long, by) keeps left part session =
     let course = course_of q w.limit in
     let g = places_in w.regions in
     let m = mid w w' q walk before in
     let none : whole m l.bytes ≡ l.bytes = all_of (asked_len walk) w'.part.items l.bytes part in
     let first = walks_ahead w m q q taken before (step.Load walk) (reports.Load (asked_len walk)) free runs events may at
     (refl, refl, refl, tt, (refl, refl, refl, refl)) refl part refl in
-    let carries_on : Continues course (pop_id_of w.regions q) walk l.bytes m w' q q' reported = (
+    let carries_on : ContinuesWalk course (pop_id_of w.regions q) walk l.bytes m w' q q' result = (
       s,
       keeps,
       λ loaded stands. subst (λ (xs : List Descriptor). ComesBy g w.limit (queue_of course) loaded walk l.bytes xs s) (sym left)
           (by_left g w.limit (queue_of course) loaded walk l.bytes ds s (by loaded stands)),
     ) in
-    let walks : WalksOn l.bytes m w' q q' reported =
-    walks_on course (pop_id_of w.regions q) walk l.bytes m w' q q' reported runs refl carries_on in (
+    let walks : WalksOn l.bytes m w' q q' result =
+    walks_on course (pop_id_of w.regions q) walk l.bytes m w' q q' result runs refl carries_on in (
       m,
       q,
       proceeds.On (reports.Load (asked_len walk)),
@@ -160,7 +160,7 @@ walks_ahead w w' q q' (l ∷ taken) ds s reported free runs events may (walk, be
         session,
         subst (λ (xs : List ℕ). walk_error m.state q (length xs) ≡ None) (sym none)
             (may_go w.regions q w.limit (asked_len walk) (length l.bytes) may long),
-        subst (λ (xs : List ℕ). WalksOn xs m w' q q' reported) (sym none) walks,
+        subst (λ (xs : List ℕ). WalksOn xs m w' q q' result) (sym none) walks,
       ),
     )
 
@@ -170,26 +170,26 @@ stops_at : (w' : ChainHandle) (course : Course) (pop_id : PopId) (more : List Ah
     → StopsBefore w'.regions more ds s → StopsAt more w'
 stops_at w' course pop_id [] ds items s is stays stops = tt
 stops_at w' course pop_id (l ∷ more) ds items (step.Load walk) is stays stops =
-    subst (λ (x : state.ChainState). IfWalking x (λ walk. LeavesLoad w'.regions walk l w'.descriptors)) (sym is)
+    subst (λ (x : state.ChainState). IfPopping x (λ walk. LeavesLoad w'.regions walk l w'.descriptors)) (sym is)
     (subst (λ (x : SmallVec Descriptor). LeavesLoad w'.regions walk l x) (sym stays) stops)
 stops_at w' course pop_id (l ∷ more) ds items (step.Chain head None) is stays stops =
-    subst (λ (x : state.ChainState). IfWalking x (λ walk. LeavesLoad w'.regions walk l w'.descriptors)) (sym is) tt
+    subst (λ (x : state.ChainState). IfPopping x (λ walk. LeavesLoad w'.regions walk l w'.descriptors)) (sym is) tt
 stops_at w' course pop_id (l ∷ more) ds items _ is stays stops =
-    subst (λ (x : state.ChainState). IfWalking x (λ walk. LeavesLoad w'.regions walk l w'.descriptors)) (sym is) tt
+    subst (λ (x : state.ChainState). IfPopping x (λ walk. LeavesLoad w'.regions walk l w'.descriptors)) (sym is) tt
 
 -- a pop by loads ahead, from its course
 pub pops_so : (w w' : ChainHandle) (q q' : QueueState) (ahead : List AheadBytes) (ds : SmallVec Descriptor) (s : comes.CourseStep)
-    (pop_id : PopId) (reported : walked.PopOutcome) → w.state ≡ at.Free → q.stopped ≡ None → event_fault (places_in w.regions) q ≡ None
+    (pop_id : PopId) (result : walked.PopOutcome) → w.state ≡ at.Free → q.stopped ≡ None → event_fault (places_in w.regions) q ≡ None
     → may_take q ≡ true → BeginsAhead w.regions w.limit (queue_of (course_of q w.limit)) ahead ds s → pop_id ≡ pop_id_of w.regions q
-    → KeepsStep (course_of q w.limit) pop_id s w w' q q' reported → w'.descriptors.items ≡ left_of s ds.items
-    → StaysForLoad s ds w'.descriptors → w'.part.items ≡ [] → w'.session ≡ w.session → PopsAhead ahead w w' q q' (proceeds.On reported)
-pops_so w w' q q' ahead ds s pop_id reported free runs events may begins is keeps left stays part session =
-    let preserved = subst (λ (t : PopId). KeepsStep (course_of q w.limit) t s w w' q q' reported) is keeps in
+    → KeepsStep (course_of q w.limit) pop_id s w w' q q' result → w'.descriptors.items ≡ left_of s ds.items
+    → StaysForLoad s ds w'.descriptors → w'.part.items ≡ [] → w'.session ≡ w.session → PopsAhead ahead w w' q q' (proceeds.On result)
+pops_so w w' q q' ahead ds s pop_id result free runs events may begins is keeps left stays part session =
+    let kept = subst (λ (t : PopId). KeepsStep (course_of q w.limit) t s w w' q q' result) is keeps in
     record {
       first = begins.first;
       more = begins.more;
       parts = begins.parts;
-      walks = walks_ahead w w' q q' (last_first begins.first []) ds.items s reported free runs events may begins.steps preserved left part
+      walks = walks_ahead w w' q q' (last_first begins.first []) ds.items s result free runs events may begins.steps kept left part
           session;
       stops = stops_at w' (course_of q w.limit) pop_id begins.more ds w'.descriptors.items s keeps.1 stays
           (subst (λ (g : Mapped). StopsBefore g begins.more ds s) (sym keeps.4.0) begins.stops);
@@ -197,29 +197,29 @@ pops_so w w' q q' ahead ds s pop_id reported free runs events may begins is keep
 
 -- the same of a handle whose part of a load was dropped then
 pub pops_apart : (w u w' : ChainHandle) (q q' : QueueState) (ahead : List AheadBytes) (ds : SmallVec Descriptor) (s : comes.CourseStep)
-    (pop_id : PopId) (reported : walked.PopOutcome) → w.state ≡ at.Free → q.stopped ≡ None → event_fault (places_in w.regions) q ≡ None
+    (pop_id : PopId) (result : walked.PopOutcome) → w.state ≡ at.Free → q.stopped ≡ None → event_fault (places_in w.regions) q ≡ None
     → may_take q ≡ true → BeginsAhead w.regions w.limit (queue_of (course_of q w.limit)) ahead ds s → pop_id ≡ pop_id_of w.regions q
-    → KeepsStep (course_of q w.limit) pop_id s w u q q' reported → u.descriptors.items ≡ left_of s ds.items
+    → KeepsStep (course_of q w.limit) pop_id s w u q q' result → u.descriptors.items ≡ left_of s ds.items
     → StaysForLoad s ds u.descriptors → u.session ≡ w.session → w'.part.items ≡ [] → w' ≡ record u { part = w'.part }
-    → PopsAhead ahead w w' q q' (proceeds.On reported)
-pops_apart w u w' q q' ahead ds s pop_id reported free runs events may begins is keeps left stays session part apart =
-    subst (λ (x : ChainHandle). PopsAhead ahead w x q q' (proceeds.On reported)) (sym apart)
-    (pops_so w (record u { part = w'.part }) q q' ahead ds s pop_id reported free runs events may begins is keeps left stays part session)
+    → PopsAhead ahead w w' q q' (proceeds.On result)
+pops_apart w u w' q q' ahead ds s pop_id result free runs events may begins is keeps left stays session part apart =
+    subst (λ (x : ChainHandle). PopsAhead ahead w x q q' (proceeds.On result)) (sym apart)
+    (pops_so w (record u { part = w'.part }) q q' ahead ds s pop_id result free runs events may begins is keeps left stays part session)
 
 none_stops : (g : Mapped) (more : List AheadBytes) (ds : SmallVec Descriptor) → StopsBefore g more ds step.Idle
 none_stops g [] ds = tt
 none_stops g (l ∷ more) ds = tt
 
 -- a pop that asks for no load takes none
-pub pops_none : (w w' : ChainHandle) (q q' : QueueState) (ahead : List AheadBytes) (reported : walked.PopOutcome) → w.state ≡ at.Free
-    → may_take q ≡ true → w'.part.items ≡ [] → w'.session ≡ w.session → w'.state ≡ at.Free → BeginsPop w w' q q' reported
-    → PopsAhead ahead w w' q q' (proceeds.On reported)
-pops_none w w' q q' ahead reported free may part session ends begins =
+pub pops_none : (w w' : ChainHandle) (q q' : QueueState) (ahead : List AheadBytes) (result : walked.PopOutcome) → w.state ≡ at.Free
+    → may_take q ≡ true → w'.part.items ≡ [] → w'.session ≡ w.session → w'.state ≡ at.Free → BeginsPop w w' q q' result
+    → PopsAhead ahead w w' q q' (proceeds.On result)
+pops_none w w' q q' ahead result free may part session ends begins =
     record {
       first = [];
       more = ahead;
       parts = refl;
-      walks = begins_free w w' q q' reported free may part session begins;
+      walks = begins_free w w' q q' result free may part session begins;
       stops = stops_at w' (course_of q w.limit) (pop_id_of w.regions q) ahead w'.descriptors [] step.Idle ends tt
           (none_stops w'.regions ahead w'.descriptors);
     }
@@ -235,25 +235,25 @@ pops_stopped w w' q ahead why free may is same part =
 
 -- a pop without its event index takes no load
 lacks_part : (e : QueueError) (miss : Option (IovaRange × Permissions)) (w u p : ChainHandle) (q q' : QueueState)
-    (reported : walked.PopOutcome)
-    → LacksEvents e miss w u q q' reported → LacksEvents e miss w (record u { part = p.part }) q q' reported
-lacks_part e None w u p q q' reported h = h
-lacks_part e (Some miss) w u p q q' reported h = h
+    (result : walked.PopOutcome)
+    → LacksEvents e miss w u q q' result → LacksEvents e miss w (record u { part = p.part }) q q' result
+lacks_part e None w u p q q' result h = h
+lacks_part e (Some miss) w u p q q' result h = h
 
 lacks_same : (e : QueueError) (miss : Option (IovaRange × Permissions)) (w u : ChainHandle) (q q' : QueueState)
-    (reported : walked.PopOutcome)
-    → LacksEvents e miss w u q q' reported → (u.state ≡ w.state) × (u.session ≡ w.session)
-lacks_same e None w u q q' reported h = (h.1.0.3, h.1.0.4)
-lacks_same e (Some miss) w u q q' reported h = (h.1.0.3, h.1.0.4)
+    (result : walked.PopOutcome)
+    → LacksEvents e miss w u q q' result → (u.state ≡ w.state) × (u.session ≡ w.session)
+lacks_same e None w u q q' result h = (h.1.0.3, h.1.0.4)
+lacks_same e (Some miss) w u q q' result h = (h.1.0.3, h.1.0.4)
 
-pub pops_lacking : (w u w' : ChainHandle) (q q' : QueueState) (ahead : List AheadBytes) (reported : walked.PopOutcome) (e : QueueError)
+pub pops_lacking : (w u w' : ChainHandle) (q q' : QueueState) (ahead : List AheadBytes) (result : walked.PopOutcome) (e : QueueError)
     → w.state ≡ at.Free → may_take q ≡ true → q.stopped ≡ None → event_fault (places_in w.regions) q ≡ Some e
-    → LacksEvents e (event_miss (places_in w.regions) q) w u q q' reported → w'.part.items ≡ [] → w' ≡ record u { part = w'.part }
-    → PopsAhead ahead w w' q q' (proceeds.On reported)
-pops_lacking w u w' q q' ahead reported e free may runs is lacks part apart =
+    → LacksEvents e (event_miss (places_in w.regions) q) w u q q' result → w'.part.items ≡ [] → w' ≡ record u { part = w'.part }
+    → PopsAhead ahead w w' q q' (proceeds.On result)
+pops_lacking w u w' q q' ahead result e free may runs is lacks part apart =
     let x : ChainHandle = record u { part = w'.part } in
     let miss = event_miss (places_in w.regions) q in
-    let here : LacksEvents e miss w x q q' reported = lacks_part e miss w u w' q q' reported lacks in
-    let same = lacks_same e miss w x q q' reported here in
-    subst (λ (y : ChainHandle). PopsAhead ahead w y q q' (proceeds.On reported)) (sym apart)
-    (pops_none w x q q' ahead reported free may part same.1 (same.0 ∙ free) (begins_where w x q q' reported (Some e) runs (sym is) here))
+    let here : LacksEvents e miss w x q q' result = lacks_part e miss w u w' q q' result lacks in
+    let same = lacks_same e miss w x q q' result here in
+    subst (λ (y : ChainHandle). PopsAhead ahead w y q q' (proceeds.On result)) (sym apart)
+    (pops_none w x q q' ahead result free may part same.1 (same.0 ∙ free) (begins_where w x q q' result (Some e) runs (sym is) here))

@@ -17,7 +17,8 @@ use Rattle.fs_chain.specs.declared.state.PopId.{PopId}
 use Rattle.fs_chain.specs.declared.popping.PopOutcome as walked
 use Rattle.fs_chain.specs.declared.chain_handle.ChainHandle.{ChainHandle}
 use Rattle.fs_chain.specs.Events.{event_fault}
-use Rattle.fs_chain.specs.Walks.{BeginsPop, BeginsUnless, BeginsWhere, Continues, ContinuesUnless, LeavesNone, WalksFrom, WalksOn, left_of}
+use Rattle.fs_chain.specs.Walks.{BeginsPop, BeginsUnless, BeginsWhere, ContinuesWalk, ContinuesUnless, LeavesNone, WalksFrom, WalksOn}
+use Rattle.fs_chain.specs.Walks.{left_of}
 
 -- of a faulty chain none are kept, and none are spoken of
 pub comes_left : (m : Memory) (limit : ℕ) (q : Queue) (loaded : Loaded) (ds : List Descriptor) (came : comes.CourseStep)
@@ -49,25 +50,25 @@ comes_taken course walk taken bytes came regions ds left same by_taken =
 
 -- a handle's walk begins, unless the queue's event index has no place
 pub begins_where :
-    (old new : ChainHandle) (before after : QueueState) (reported : walked.PopOutcome) (fault : Option QueueError) → before.stopped ≡ None
-    → fault ≡ event_fault (places_in old.regions) before → BeginsWhere fault old new before after reported
-    → BeginsPop old new before after reported
-begins_where old new before after reported fault proceeds is begins =
-    let there = subst (λ (f : Option QueueError). BeginsWhere f old new before after reported) is begins in
-    subst (λ (s : Option QueueError). BeginsUnless s old new before after reported) (sym proceeds) there
+    (old new : ChainHandle) (before after : QueueState) (result : walked.PopOutcome) (fault : Option QueueError) → before.stopped ≡ None
+    → fault ≡ event_fault (places_in old.regions) before → BeginsWhere fault old new before after result
+    → BeginsPop old new before after result
+begins_where old new before after result fault proceeds is begins =
+    let there = subst (λ (f : Option QueueError). BeginsWhere f old new before after result) is begins in
+    subst (λ (s : Option QueueError). BeginsUnless s old new before after result) (sym proceeds) there
 
 -- a handle's walk goes on, unless its queue was stopped
 pub walks_unless : (course : Course) (pop_id : PopId) (walk : QueueWalk) (bytes : List ℕ) (old new : ChainHandle)
-    (before after : QueueState) (reported : walked.PopOutcome)
-    → old.state ≡ at.Walking course pop_id walk → ContinuesUnless before.stopped course pop_id walk bytes old new before after reported
-    → WalksOn bytes old new before after reported
-walks_unless course pop_id walk bytes old new before after reported is proceeds =
-    let P : state.ChainState → Type 0 = λ s. WalksFrom s bytes old new before after reported in subst P (sym is) proceeds
+    (before after : QueueState) (result : walked.PopOutcome)
+    → old.state ≡ at.Popping course pop_id walk → ContinuesUnless before.stopped course pop_id walk bytes old new before after result
+    → WalksOn bytes old new before after result
+walks_unless course pop_id walk bytes old new before after result is proceeds =
+    let P : state.ChainState → Type 0 = λ s. WalksFrom s bytes old new before after result in subst P (sym is) proceeds
 
 pub walks_on : (course : Course) (pop_id : PopId) (walk : QueueWalk) (bytes : List ℕ) (old new : ChainHandle) (before after : QueueState)
-    (reported : walked.PopOutcome)
-    → before.stopped ≡ None → old.state ≡ at.Walking course pop_id walk → Continues course pop_id walk bytes old new before after reported
-    → WalksOn bytes old new before after reported
-walks_on course pop_id walk bytes old new before after reported free is proceeds =
-    walks_unless course pop_id walk bytes old new before after reported is
-    (subst (λ (s : Option QueueError). ContinuesUnless s course pop_id walk bytes old new before after reported) (sym free) proceeds)
+    (result : walked.PopOutcome)
+    → before.stopped ≡ None → old.state ≡ at.Popping course pop_id walk → ContinuesWalk course pop_id walk bytes old new before after result
+    → WalksOn bytes old new before after result
+walks_on course pop_id walk bytes old new before after result free is proceeds =
+    walks_unless course pop_id walk bytes old new before after result is
+    (subst (λ (s : Option QueueError). ContinuesUnless s course pop_id walk bytes old new before after result) (sym free) proceeds)

@@ -5,16 +5,16 @@ use Rattle.std.proofs.lemmas.List.{map-append}
 use Rattle.live_machine.specs.Live.{InFlightChain}
 use Rattle.live_machine.proofs.Alone.{all_both, all_left, all_right}
 use Rattle.live_machine.proofs.Queues.{there_other, there_same}
-use Rattle.fs_chain.specs.Holds.{HoldsChain}
-use Rattle.fs_chain.specs.Together.{EachHasOne, FindsOwn, HasNoMore, HasNone, IsHeldBy, IsNot, JoinsOthers, KeepsOthers, LeavesOthers}
+use Rattle.fs_chain.specs.Holds.{HoldsInFlight}
+use Rattle.fs_chain.specs.Together.{EachHasOne, FindsOwn, HasNoneLeft, HasNone, IsHeldBy, IsNot, JoinsOthers, KeepsOthers, LeavesOthers}
 use Rattle.fs_chain.specs.Together.{Owned, with_handle}
 use Rattle.fs_chain.specs.declared.chain_handle.ChainHandle.{ChainHandle}
 
 abbrev pub chains_of : List Owned → List InFlightChain
 chains_of os = map (λ (o : Owned). o.chain) os
 
-abbrev Held : (page_size : ℕ) → List ChainHandle → Owned → Type 0
-Held page_size ws o = IsHeldBy page_size ws o.handle o.chain
+abbrev HeldByOwner : (page_size : ℕ) → List ChainHandle → Owned → Type 0
+HeldByOwner page_size ws o = IsHeldBy page_size ws o.handle o.chain
 
 abbrev Lacks : ℕ → Owned → Type 0
 Lacks k o = IsNot k o.handle
@@ -30,14 +30,14 @@ amid k c (o ∷ ob) oh once =
     ((apart k c o ob oh o.handle refl once.0, more.0), more.1)
   where
     apart : (k : ℕ) (c : InFlightChain) (o : Owned) (ob oh : List Owned) (h : Option ℕ) → o.handle ≡ h →
-        HasNoMore h (ob ++ (record { handle = Some k; chain = c }) ∷ oh) → IsNot k h
+        HasNoneLeft h (ob ++ (record { handle = Some k; chain = c }) ∷ oh) → IsNot k h
     apart k c o ob oh None is none = tt
     apart k c o ob oh (Some j) is none =
         let here = all_right (Lacks j) ob (record { handle = Some k; chain = c } ∷ oh) none in
         λ same. here.0 (sym same)
 
 -- the others, without it
-no_more : (h : Option ℕ) (o : Owned) (ob oh : List Owned) → HasNoMore h (ob ++ o ∷ oh) → HasNoMore h (ob ++ oh)
+no_more : (h : Option ℕ) (o : Owned) (ob oh : List Owned) → HasNoneLeft h (ob ++ o ∷ oh) → HasNoneLeft h (ob ++ oh)
 no_more None o ob oh none = tt
 no_more (Some j) o ob oh none =
     let behind = all_right (Lacks j) ob (o ∷ oh) none in
@@ -49,7 +49,8 @@ without o (p ∷ ob) oh once = (no_more p.handle o ob oh once.0, without o ob oh
 
 -- with another chain in its place
 no_more_so : (h : Option ℕ) (k : ℕ) (c c' : InFlightChain) (ob oh : List Owned)
-    → HasNoMore h (ob ++ (record { handle = Some k; chain = c }) ∷ oh) → HasNoMore h (ob ++ (record { handle = Some k; chain = c' }) ∷ oh)
+    → HasNoneLeft h (ob ++ (record { handle = Some k; chain = c }) ∷ oh) →
+    HasNoneLeft h (ob ++ (record { handle = Some k; chain = c' }) ∷ oh)
 no_more_so None k c c' ob oh none = tt
 no_more_so (Some j) k c c' ob oh none =
     let behind = all_right (Lacks j) ob (record { handle = Some k; chain = c } ∷ oh) none in
@@ -62,8 +63,8 @@ in_place k c c' [] oh once = (once.0, once.1)
 in_place k c c' (o ∷ ob) oh once = (no_more_so o.handle k c c' ob oh once.0, in_place k c c' ob oh once.1)
 
 -- with one more
-one_more : (h : Option ℕ) (k : ℕ) (c : InFlightChain) (os : List Owned) → IsNot k h → HasNoMore h os →
-    HasNoMore h (os ++ (record { handle = Some k; chain = c }) ∷ [])
+one_more : (h : Option ℕ) (k : ℕ) (c : InFlightChain) (os : List Owned) → IsNot k h → HasNoneLeft h os →
+    HasNoneLeft h (os ++ (record { handle = Some k; chain = c }) ∷ [])
 one_more None k c os isnt none = tt
 one_more (Some j) k c os isnt none =
     all_both (Lacks j) os (record { handle = Some k; chain = c } ∷ []) none (λ same. isnt (sym same), tt)
@@ -82,7 +83,7 @@ held_still page_size ws k new (Some j) c isnt held =
     (held.0, there_other ws k j (λ _. new) (λ same. isnt (sym same)) ∙ held.1, held.2)
 
 pub all_still : (page_size : ℕ) (ws : List ChainHandle) (k : ℕ) (new : ChainHandle) (os : List Owned) → HasNone k os →
-    AllByRecursion (Held page_size ws) os → AllByRecursion (Held page_size (with_handle ws k new)) os
+    AllByRecursion (HeldByOwner page_size ws) os → AllByRecursion (HeldByOwner page_size (with_handle ws k new)) os
 all_still page_size ws k new [] none held = tt
 all_still page_size ws k new (o ∷ os) none held =
     (held_still page_size ws k new o.handle o.chain none.0 held.0, all_still page_size ws k new os none.1 held.1)
@@ -94,10 +95,10 @@ same_handle ws k v w one two = cc
 
 pub finds_own : FindsOwn
 finds_own s ws ob oh k w c all there =
-    let held = all_right (Held s.page_size ws) ob (record { handle = Some k; chain = c } ∷ oh) all.held in
+    let held = all_right (HeldByOwner s.page_size ws) ob (record { handle = Some k; chain = c } ∷ oh) all.held in
     let v = held.0 in (
       all.chains ∙ map-append (λ (o : Owned). o.chain) ob (record { handle = Some k; chain = c } ∷ oh),
-      subst (λ (x : ChainHandle). HoldsChain s.page_size c x) (same_handle ws k v.0 w v.1 there) v.2,
+      subst (λ (x : ChainHandle). HoldsInFlight s.page_size c x) (same_handle ws k v.0 w v.1 there) v.2,
     )
 
 pub keeps_others : KeepsOthers
@@ -105,14 +106,14 @@ keeps_others s after ws ob oh k w new c c' all there page chains holds =
     let here : Owned = record { handle = Some k; chain = c } in
     let next : Owned = record { handle = Some k; chain = c' } in
     let none = amid k c ob oh all.once in
-    let behind = all_right (Held s.page_size ws) ob (here ∷ oh) all.held in
-    let held : AllByRecursion (Held s.page_size (with_handle ws k new)) (ob ++ next ∷ oh) =
-    all_both (Held s.page_size (with_handle ws k new)) ob (next ∷ oh)
-    (all_still s.page_size ws k new ob none.0 (all_left (Held s.page_size ws) ob (here ∷ oh) all.held))
+    let behind = all_right (HeldByOwner s.page_size ws) ob (here ∷ oh) all.held in
+    let held : AllByRecursion (HeldByOwner s.page_size (with_handle ws k new)) (ob ++ next ∷ oh) =
+    all_both (HeldByOwner s.page_size (with_handle ws k new)) ob (next ∷ oh)
+    (all_still s.page_size ws k new ob none.0 (all_left (HeldByOwner s.page_size ws) ob (here ∷ oh) all.held))
     ((new, there_same ws k k (λ _. new) w refl there, holds), all_still s.page_size ws k new oh none.1 behind.1) in
     record {
       chains = chains ∙ sym (map-append (λ (o : Owned). o.chain) ob (next ∷ oh));
-      held = subst (λ (n : ℕ). AllByRecursion (Held n (with_handle ws k new)) (ob ++ next ∷ oh)) (sym page) held;
+      held = subst (λ (n : ℕ). AllByRecursion (HeldByOwner n (with_handle ws k new)) (ob ++ next ∷ oh)) (sym page) held;
       once = in_place k c c' ob oh all.once;
     }
 
@@ -120,27 +121,27 @@ pub leaves_others : LeavesOthers
 leaves_others s after ws ob oh k new c all page chains =
     let here : Owned = record { handle = Some k; chain = c } in
     let none = amid k c ob oh all.once in
-    let behind = all_right (Held s.page_size ws) ob (here ∷ oh) all.held in
-    let held : AllByRecursion (Held s.page_size (with_handle ws k new)) (ob ++ oh) =
-    all_both (Held s.page_size (with_handle ws k new)) ob oh
-    (all_still s.page_size ws k new ob none.0 (all_left (Held s.page_size ws) ob (here ∷ oh) all.held))
+    let behind = all_right (HeldByOwner s.page_size ws) ob (here ∷ oh) all.held in
+    let held : AllByRecursion (HeldByOwner s.page_size (with_handle ws k new)) (ob ++ oh) =
+    all_both (HeldByOwner s.page_size (with_handle ws k new)) ob oh
+    (all_still s.page_size ws k new ob none.0 (all_left (HeldByOwner s.page_size ws) ob (here ∷ oh) all.held))
     (all_still s.page_size ws k new oh none.1 behind.1) in
     record {
       chains = chains ∙ sym (map-append (λ (o : Owned). o.chain) ob oh);
-      held = subst (λ (n : ℕ). AllByRecursion (Held n (with_handle ws k new)) (ob ++ oh)) (sym page) held;
+      held = subst (λ (n : ℕ). AllByRecursion (HeldByOwner n (with_handle ws k new)) (ob ++ oh)) (sym page) held;
       once = without here ob oh all.once;
     }
 
 pub joins_others : JoinsOthers
 joins_others s after ws os k w new c all none there page chains holds =
     let next : Owned = record { handle = Some k; chain = c } in
-    let held : AllByRecursion (Held s.page_size (with_handle ws k new)) (os ++ next ∷ []) =
-    all_both (Held s.page_size (with_handle ws k new)) os (next ∷ [])
+    let held : AllByRecursion (HeldByOwner s.page_size (with_handle ws k new)) (os ++ next ∷ []) =
+    all_both (HeldByOwner s.page_size (with_handle ws k new)) os (next ∷ [])
     (all_still s.page_size ws k new os none all.held)
     ((new, there_same ws k k (λ _. new) w refl there, holds), tt) in
     record {
       chains = chains ∙ ap (λ (cs : List InFlightChain). cs ++ c ∷ []) all.chains
           ∙ sym (map-append (λ (o : Owned). o.chain) os (next ∷ []));
-      held = subst (λ (n : ℕ). AllByRecursion (Held n (with_handle ws k new)) (os ++ next ∷ [])) (sym page) held;
+      held = subst (λ (n : ℕ). AllByRecursion (HeldByOwner n (with_handle ws k new)) (os ++ next ∷ [])) (sym page) held;
       once = joined k c os none all.once;
     }

@@ -11,7 +11,7 @@ use Rattle.fs_chain.specs.declared.chain_handle.ChainHandle.{ChainHandle}
 use Rattle.fs_chain.specs.declared.state.ChainState as state
 use Rattle.fs_chain.specs.declared.state.ChainState.TheVariants as at
 use Rattle.fs_chain.specs.Loads.{ProceedsSo, IsLoadWindow, came}
-use Rattle.fs_chain.specs.Orders.{IfWalking, begin_error}
+use Rattle.fs_chain.specs.Orders.{IfPopping, begin_error}
 use Rattle.fs_chain.specs.Pops.{BeginsPopBy, WantsBytes}
 
 -- why a pop can't begin, with loads ahead
@@ -28,25 +28,25 @@ IsWantedLoad w one =
 -- one has those of a load which was made ahead, and is just the one that the call before it asked for
 abbrev pub WalksAhead : (taken : List AheadBytes) → (old new : ChainHandle) → (before after : QueueState) →
     outcome.LoadOutcome → Type 0
-WalksAhead [] old new before after reported = BeginsPopBy old new before after reported
-WalksAhead (l ∷ taken) old new before after reported =
+WalksAhead [] old new before after result = BeginsPopBy old new before after result
+WalksAhead (l ∷ taken) old new before after result =
     (w : ChainHandle) × (q : QueueState) × (earlier : outcome.LoadOutcome)
     × WalksAhead taken old w before q earlier
     × WantsBytes earlier
     × IsWantedLoad w l.load
     × (length l.bytes ≡ l.load.len)
-    × ProceedsSo w q l.bytes reported new after
+    × ProceedsSo w q l.bytes result new after
 
 -- a pop that asks for a load doesn't take the next one of these
 abbrev pub StopsAt : List AheadBytes → ChainHandle → Type 0
 StopsAt [] w = Unit {0}
-StopsAt (l ∷ more) w = IfWalking w.state (λ walk. LeavesLoad w.regions walk l w.descriptors)
+StopsAt (l ∷ more) w = IfPopping w.state (λ walk. LeavesLoad w.regions walk l w.descriptors)
 
 -- a pop takes the first of these loads, as many as it asks for one after another
 pub record PopsAhead (ahead : List AheadBytes) (old new : ChainHandle) (before after : QueueState)
-    (reported : outcome.LoadOutcome) : Type 0 where
+    (result : outcome.LoadOutcome) : Type 0 where
   pub first : List AheadBytes
   pub more : List AheadBytes
   pub parts : ahead ≡ first ++ more
-  pub walks : WalksAhead (last_first first []) old new before after reported
+  pub walks : WalksAhead (last_first first []) old new before after result
   pub stops : StopsAt more new

@@ -22,7 +22,7 @@ use Rattle.fs_chain.specs.declared.state.ChainReply.{ChainReply}
 use Rattle.fs_chain.specs.declared.state.ChainState as state
 use Rattle.fs_chain.specs.declared.state.ChainState.TheVariants as at
 use Rattle.fs_chain.specs.declared.chain_handle.ChainHandle.{ChainHandle}
-use Rattle.fs_chain.specs.Serials.{serial_error}
+use Rattle.fs_chain.specs.Tickets.{ticket_error}
 use Rattle.fs_chain.specs.Walks.{no_reply}
 
 -- how many bytes of data an answer has
@@ -50,13 +50,13 @@ refusal_error refused.OtherKind = error.OtherKind
 refusal_error refused.TooLong = error.LongReply
 
 -- the answer to a call in flight is accepted. For every command that the call may belong to, `given`
--- follows from the answer: it is returned as `reported`, and the handle keeps it
+-- follows from the answer: it is returned as `result`, and the handle keeps it
 abbrev pub IsGiven :
     (s : Setting) → Waiting → FileAnswer → InFlight → (options : ℕ) → Replied → state.ChainState → Type 0
-IsGiven s w answer out options reported preserved =
+IsGiven s w answer out options result kept =
     (given : Answered)
-    × (reported ≡ replied_of given)
-    × (preserved ≡ at.HasReply out (reply_of given.sent (data_len answer)))
+    × (result ≡ replied_of given)
+    × (kept ≡ at.Replied out (reply_of given.sent (data_len answer)))
     × ((command : FileCommand) (bytes : List ℕ) →
     WaitsFor w command →
     ReportsBytes bytes answer →
@@ -81,24 +81,24 @@ RefusesAnswer w answer e =
     IsRefusedFor reason (first_call command) w.room bytes answer)
 
 -- P, if a call is in flight
-abbrev pub IfWaits : state.ChainState → (InFlight → Waiting → Type 0) → Type 0
-IfWaits (at.Waits out w) P = P out w
-IfWaits _ P = Unit {0}
+abbrev pub IfDecoded : state.ChainState → (InFlight → Waiting → Type 0) → Type 0
+IfDecoded (at.Decoded out w) P = P out w
+IfDecoded _ P = Unit {0}
 
 -- an answer changes nothing: no call is in flight, or the call refuses it
 abbrev pub AnswerFails : state.ChainState → FileAnswer → ChainError → Type 0
-AnswerFails (at.Waits out w) answer e = RefusesAnswer w answer e
-AnswerFails (at.Lists out l) answer e = e ≡ error.OtherKind
+AnswerFails (at.Decoded out w) answer e = RefusesAnswer w answer e
+AnswerFails (at.Listing out l) answer e = e ≡ error.OtherKind
 AnswerFails _ answer e = e ≡ error.WrongOrder
 
 -- an answer with this number changes nothing: no call is in flight, another call is, or the call refuses
 -- it
-abbrev pub IsNotTaken : ChainHandle → (serial : ℕ) → FileAnswer → ChainError → Type 0
-IsNotTaken w serial answer e =
-    (serial_error w.state w.serial serial ≡ Some e)
-    ⊎ ((serial_error w.state w.serial serial ≡ None) × AnswerFails w.state answer e)
+abbrev pub IsNotTaken : ChainHandle → (ticket : ℕ) → FileAnswer → ChainError → Type 0
+IsNotTaken w ticket answer e =
+    (ticket_error w.state w.ticket ticket ≡ Some e)
+    ⊎ ((ticket_error w.state w.ticket ticket ≡ None) × AnswerFails w.state answer e)
 
 -- a call is in flight
 abbrev pub IsWaiting : state.ChainState → Type 0
-IsWaiting (at.Waits out w) = Unit {0}
+IsWaiting (at.Decoded out w) = Unit {0}
 IsWaiting _ = ⊥

@@ -37,9 +37,9 @@ WaitsForNoListing w = (command : FileCommand) → WaitsFor w command → is_list
 
 -- the returned call is the command's first one; the handle keeps it, or its listing, until it is answered
 abbrev pub KeepsCall : Setting → Meaning → (bytes : List ℕ) → FileCall → InFlight → state.ChainState → Type 0
-KeepsCall s m bytes made out (at.Waits preserved w) =
-    (preserved ≡ out) × AsksCall s m bytes made w × WaitsForNoListing w
-KeepsCall s m bytes made out (at.Lists preserved l) = (preserved ≡ out) × AsksListing s m bytes made l
+KeepsCall s m bytes made out (at.Decoded kept w) =
+    (kept ≡ out) × AsksCall s m bytes made w × WaitsForNoListing w
+KeepsCall s m bytes made out (at.Listing kept l) = (kept ≡ out) × AsksListing s m bytes made l
 KeepsCall s m bytes made out _ = ⊥
 
 -- the result for a reply that is kept, or for silence
@@ -49,18 +49,18 @@ asked_of (Some front) = asked.Reply front
 
 -- no file call is made, and the handle keeps the reply, if there is one
 abbrev pub KeepsReply : Setting → Meaning → (bytes : List ℕ) → InFlight → state.ChainState → Type 0
-KeepsReply s m bytes out (at.HasReply preserved reply) =
-    (preserved ≡ out) × (reply.behind ≡ 0) × IsDecoded s m bytes (asked_of reply.front)
+KeepsReply s m bytes out (at.Replied kept reply) =
+    (kept ≡ out) × (reply.behind ≡ 0) × IsDecoded s m bytes (asked_of reply.front)
 KeepsReply s m bytes out _ = ⊥
 
 -- a request with this meaning has this result, and its chain this state afterwards
 abbrev pub ReportsMeaning :
     Setting → Meaning → (bytes : List ℕ) → InFlight → Decoded → state.ChainState → Type 0
-ReportsMeaning s m bytes out (reports.Call made) preserved = KeepsCall s m bytes made out preserved
-ReportsMeaning s m bytes out (reports.More wanted) preserved = preserved ≡ at.Taken out
-ReportsMeaning s m bytes out reports.Nothing preserved = KeepsReply s m bytes out preserved
-ReportsMeaning s m bytes out (reports.Fault e) preserved =
-    (preserved ≡ at.HasReply out no_reply) × IsDecoded s m bytes (asked.Fault e)
+ReportsMeaning s m bytes out (reports.Call made) kept = KeepsCall s m bytes made out kept
+ReportsMeaning s m bytes out (reports.More wanted) kept = kept ≡ at.Popped out
+ReportsMeaning s m bytes out reports.Nothing kept = KeepsReply s m bytes out kept
+ReportsMeaning s m bytes out (reports.Fault e) kept =
+    (kept ≡ at.Replied out no_reply) × IsDecoded s m bytes (asked.Fault e)
 
 -- a call's names, values, pairs and label are in the request at their places, with these options
 abbrev pub ReportStandsIn : (options : ℕ) → (request : List ℕ) → Decoded → Type 0
@@ -68,9 +68,9 @@ ReportStandsIn options request (reports.Call made) = CallStandsIn request (first
 ReportStandsIn options request _ = Unit {0}
 
 -- the call in flight keeps this context; a listing keeps none
-abbrev pub IsPreservedFor : Context → state.ChainState → Type 0
-IsPreservedFor who (at.Waits out w) = w.context ≡ who
-IsPreservedFor who _ = Unit {0}
+abbrev pub IsKeptFor : Context → state.ChainState → Type 0
+IsKeptFor who (at.Decoded out w) = w.context ≡ who
+IsKeptFor who _ = Unit {0}
 
 -- how many bytes of a request the library needs if these don't suffice to decode it: first those before a
 -- WRITE's data, then all of them
@@ -88,5 +88,5 @@ wanted_after front whole = if front_suffices front whole then None else Some (wa
 
 -- P, if a chain is in flight and its request wasn't decoded
 abbrev pub IfUndecoded : state.ChainState → (InFlight → Type 0) → Type 0
-IfUndecoded (at.Taken out) P = P out
+IfUndecoded (at.Popped out) P = P out
 IfUndecoded _ P = Unit {0}

@@ -13,16 +13,16 @@ use Rattle.fs_chain.specs.declared.state.ChainState.TheVariants as at
 
 -- a pop with this result ends after at most n more whole loads of any bytes. Between the calls of `pop` other
 -- handles may change the queue. Parts of a load change nothing but the part that the handle keeps
-unfoldable pub EndsWithin : (n : ℕ) → ChainHandle → walked.PopOutcome → Type 0
-EndsWithin zero w (shows.Load len) = ⊥
-EndsWithin (suc n) w (shows.Load len) =
-    (v new : ChainHandle) (q q' : QueueState) (bytes : List ℕ) (reported : walked.PopOutcome) →
+unfoldable pub PopEndsWithin : (n : ℕ) → ChainHandle → walked.PopOutcome → Type 0
+PopEndsWithin zero w (shows.Load len) = ⊥
+PopEndsWithin (suc n) w (shows.Load len) =
+    (v new : ChainHandle) (q q' : QueueState) (bytes : List ℕ) (result : walked.PopOutcome) →
     IsAllButPart w v →
-    ProceedsSo v q bytes (outcomes.On reported) new q' →
-    EndsWithin n new reported
-EndsWithin n w _ = Unit {0}
+    ProceedsSo v q bytes (outcomes.On result) new q' →
+    PopEndsWithin n new result
+PopEndsWithin n w _ = Unit {0}
 
 -- a pop that begins with this result ends after at most size + 4 loads
 abbrev pub EndsSoon : state.ChainState → (new : ChainHandle) → (size : ℕ) → outcome.LoadOutcome → Type 0
-EndsSoon at.Free new size (outcomes.On reported) = EndsWithin (size + 4) new reported
+EndsSoon at.Free new size (outcomes.On result) = PopEndsWithin (size + 4) new result
 EndsSoon _ new size _ = Unit {0}

@@ -12,7 +12,7 @@ use Rattle.fs_chain.specs.declared.chain_handle.ChainHandle.{ChainHandle}
 use Rattle.plain_machine.specs.StepBy.{byte_store}
 use Rattle.live_machine.specs.Live.{Abandoned, FillsBuffer, Happens, LiveState, InFlightChain, Phase}
 use Rattle.live_machine.specs.Live.{PoppedFaulty, room_of}
-use Rattle.live_machine.specs.Runs.{reported_by}
+use Rattle.live_machine.specs.Runs.{marks_of}
 
 -- a chain that has its reply buffer still: it isn't faulty, and its handle wasn't freed
 abbrev pub HasRoom : Phase → Type 0
@@ -55,4 +55,4 @@ HandleFillsRange {F} may =
     (address : ℕ)
     × (guest ≡ address % 2 ^ 64)
     × (let fills = FillsBuffer c (record { address = address; bytes = bytes } ∷ []) in
-    Happens may s fills s × (reported_by s fills ≡ take (length bytes) (drop from (room_of c))))
+    Happens may s fills s × (marks_of s fills ≡ take (length bytes) (drop from (room_of c))))

@@ -6,7 +6,7 @@ use Rattle.fs_queue.specs.Chain.{Descriptor}
 use Rattle.fs_regions.specs.Places.{places_in}
 use Rattle.fs_regions.specs.Walks.{Loaded, asked_by, asked_len}
 use Rattle.live_machine.specs.Live.{InFlightChain}
-use Rattle.fs_chain.specs.Holds.{HasUnreplied, HoldsChain, HoldsPop, Pop}
+use Rattle.fs_chain.specs.Holds.{HasUnreplied, HoldsInFlight, HoldsPop, Pop}
 use Rattle.fs_chain.specs.Pops.{AddsSo}
 use Rattle.fs_chain.specs.declared.chain_handle.ChainHandle.{ChainHandle}
 use Rattle.fs_chain.specs.declared.popping.PopOutcome as walked
@@ -34,11 +34,11 @@ LoadsAreFew =
 -- each whole load that it is given counts
 abbrev pub LoadsCount : Type 0
 LoadsCount =
-    (limit : ℕ) (p : Pop) (w : ChainHandle) (ds : List Descriptor) (reported : walked.PopOutcome)
+    (limit : ℕ) (p : Pop) (w : ChainHandle) (ds : List Descriptor) (result : walked.PopOutcome)
     (bytes : List ℕ)
     (loaded : Loaded) →
     HoldsPop limit p w →
-    AddsSo w.state (outcomes.On reported) ds p.loaded bytes loaded →
+    AddsSo w.state (outcomes.On result) ds p.loaded bytes loaded →
     load_count p.loaded + 1 ≤ load_count loaded
 
 -- each byte of the load that it asks for is mapped, so no call is refused because it isn't
@@ -53,9 +53,9 @@ AskedIsMapped =
 
 -- a chain is in flight, and its reply isn't known
 abbrev pub IsWithoutReply : state.ChainState → Type 0
-IsWithoutReply (at.Taken out) = Unit {0}
-IsWithoutReply (at.Waits out waiting) = Unit {0}
-IsWithoutReply (at.Lists out listing) = Unit {0}
+IsWithoutReply (at.Popped out) = Unit {0}
+IsWithoutReply (at.Decoded out waiting) = Unit {0}
+IsWithoutReply (at.Listing out listing) = Unit {0}
 IsWithoutReply _ = ⊥
 
 -- the caller may reply to each chain of a run that a handle holds so
@@ -63,5 +63,5 @@ abbrev pub HeldIsUnreplied : Type 0
 HeldIsUnreplied =
     (page_size : ℕ) (c : InFlightChain) (w : ChainHandle) →
     IsWithoutReply w.state →
-    HoldsChain page_size c w →
+    HoldsInFlight page_size c w →
     HasUnreplied c w.state

@@ -44,7 +44,7 @@ use Rattle.fs_chain.specs.Loads.{whole}
 use Rattle.fs_chain.specs.Orders.{front_of, reply_len}
 pub use Rattle.fs_chain.specs.Queues.{live_of}
 use Rattle.fs_chain.specs.Rings.{ring_of}
-use Rattle.fs_chain.specs.Walks.{reported_of}
+use Rattle.fs_chain.specs.Walks.{outcome_of}
 use Rattle.fs_chain.specs.Pops.{AddsSo}
 use Rattle.fs_chain.specs.declared.answering.Replied.{Replied}
 use Rattle.fs_chain.specs.declared.chain_handle.ChainHandle.{ChainHandle}
@@ -66,12 +66,12 @@ use Rattle.fs_chain.specs.declared.state.PopId.{PopId}
 
 -- the live machine. Its files may answer anything: by `law_files` a run is one over any files of which its
 -- calls are a run
-abbrev pub Machine : Type 0
-Machine = LiveState (Unit {0})
+abbrev pub RunState : Type 0
+RunState = LiveState (Unit {0})
 
 -- queue i of the run is this one
-abbrev pub IsQueue : Machine → ℕ → QueueState → Type 0
-IsQueue s i q = slice_get s.queues i ≡ Some (live_of q)
+abbrev pub IsRunQueue : RunState → ℕ → QueueState → Type 0
+IsRunQueue s i q = slice_get s.queues i ≡ Some (live_of q)
 
 -- ---- a chain in a handle
 
@@ -96,10 +96,10 @@ IsPastFirstCall [] given = given.calls ≡ []
 IsPastFirstCall (step ∷ calls) given = Unit {0}
 
 -- the handle keeps this reply: its front, and how many bytes are behind it
-pub record KeepsReplyOf (reply : List ℕ) (out : InFlight) (preserved : ChainReply) : Type 0 where
+pub record KeepsReplyOf (reply : List ℕ) (out : InFlight) (kept : ChainReply) : Type 0 where
   pub behind : List ℕ
-  pub bytes : reply ≡ front_of preserved ++ behind
-  pub len : reply_len out preserved ≡ length reply
+  pub bytes : reply ≡ front_of kept ++ behind
+  pub len : reply_len out kept ≡ length reply
 
 -- the session in which a request was decoded
 abbrev pub IsDecodedIn : (page_size options : ℕ) → Session → Type 0
@@ -109,14 +109,14 @@ IsDecodedIn page_size options session = (session.page_size ≡ page_size) × (se
 -- phase says: by its answered calls, or its caller's own bytes. A listing has its entries in a list of the
 -- caller's, from before the first to its end
 abbrev pub IsHeldIn : (page_size : ℕ) → InFlightChain → Phase → state.ChainState → Session → Type 0
-IsHeldIn page_size c Fetched (at.Taken out) session = IsOutAs c out
-IsHeldIn page_size c (PoppedFaulty why) (at.HasReply out preserved) session =
-    IsOutAs c out × KeepsReplyOf [] out preserved
+IsHeldIn page_size c Fetched (at.Popped out) session = IsOutAs c out
+IsHeldIn page_size c (PoppedFaulty why) (at.Replied out kept) session =
+    IsOutAs c out × KeepsReplyOf [] out kept
 IsHeldIn page_size c (PoppedFaulty why) (at.Pushing out) session = IsOutAs c out
-IsHeldIn page_size c (Own request reply) (at.HasReply out preserved) session =
-    IsOutAs c out × KeepsReplyOf reply out preserved
+IsHeldIn page_size c (Own request reply) (at.Replied out kept) session =
+    IsOutAs c out × KeepsReplyOf reply out kept
 IsHeldIn page_size c (Own request reply) (at.Pushing out) session = IsOutAs c out
-IsHeldIn page_size c (Asked request options calls) (at.Waits out waiting) session =
+IsHeldIn page_size c (Asked request options calls) (at.Decoded out waiting) session =
     IsOutAs c out
     × (calls ≡ [])
     × IsDecodedIn page_size options session
@@ -125,7 +125,7 @@ IsHeldIn page_size c (Asked request options calls) (at.Waits out waiting) sessio
     (drop 80 request) made
     waiting
     × WaitsForNoListing waiting
-IsHeldIn page_size c (Asked request options calls) (at.Lists out listing) session =
+IsHeldIn page_size c (Asked request options calls) (at.Listing out listing) session =
     IsOutAs c out
     × IsDecodedIn page_size options session
     × (unique : ℕ)
@@ -135,26 +135,26 @@ IsHeldIn page_size c (Asked request options calls) (at.Lists out listing) sessio
     × (es : List Brought)
     × (list : List ℕ)
     × gathering.Holds listing list es
-IsHeldIn page_size c (Asked request options calls) (at.HasReply out preserved) session =
+IsHeldIn page_size c (Asked request options calls) (at.Replied out kept) session =
     IsOutAs c out
-    × KeepsReplyOf (served_so page_size options request out.room_len calls).reply out preserved
+    × KeepsReplyOf (served_so page_size options request out.room_len calls).reply out kept
     × IsPastFirstCall calls (served_so page_size options request out.room_len calls)
 IsHeldIn page_size c (Asked request options calls) (at.Pushing out) session =
     IsOutAs c out × IsPastFirstCall calls (served_so page_size options request out.room_len calls)
 IsHeldIn page_size c phase st session = ⊥
 
-abbrev pub HoldsChain : (page_size : ℕ) → InFlightChain → ChainHandle → Type 0
-HoldsChain page_size c w = IsHeldIn page_size c c.phase w.state w.session
+abbrev pub HoldsInFlight : (page_size : ℕ) → InFlightChain → ChainHandle → Type 0
+HoldsInFlight page_size c w = IsHeldIn page_size c c.phase w.state w.session
 
 -- the request of a chain in this phase was decoded, and no call of it was answered. A listing has no entry
 abbrev pub IsUnanswered : Phase → state.ChainState → Type 0
-IsUnanswered (Asked request options calls) (at.Lists out listing) = (calls ≡ []) × (listing.len ≡ 0)
+IsUnanswered (Asked request options calls) (at.Listing out listing) = (calls ≡ []) × (listing.len ≡ 0)
 IsUnanswered (Asked request options calls) st = calls ≡ []
 IsUnanswered phase st = ⊥
 
 -- a handle holds such a chain
 abbrev pub HoldsUnanswered : (page_size : ℕ) → InFlightChain → ChainHandle → Type 0
-HoldsUnanswered page_size c w = HoldsChain page_size c w × IsUnanswered c.phase w.state
+HoldsUnanswered page_size c w = HoldsInFlight page_size c w × IsUnanswered c.phase w.state
 
 -- ---- a pop in a handle
 
@@ -175,7 +175,7 @@ IsPopOf q p = p.event_index ≡ q.event_index
 abbrev pub no_pop : Pop
 no_pop = record { loaded = nothing; event_index = false }
 
--- the queue of a pop, as far as the mappings of its event index tell
+-- the queue of a pop, as far as the mappings of its event index say
 abbrev pub queue_with : Queue → Pop → LiveQueue
 queue_with q p = record { queue = q; next_used = 0; max_in_flight = 0; event_index = p.event_index }
 
@@ -184,7 +184,7 @@ pub record HoldsPop (limit : ℕ) (p : Pop) (w : ChainHandle) : Type 0 where
   pub course : Course
   pub pop_id : PopId
   pub walk : QueueWalk
-  pub state : w.state ≡ at.Walking course pop_id walk
+  pub state : w.state ≡ at.Popping course pop_id walk
   pub ring : pop_id.ring ≡ ring_of (places_in w.regions) course.layout.used
   pub limit_is : course.limit ≡ limit
   pub comes : IsWalkAt (places_in w.regions) (queue_of course) p.loaded w.descriptors.items walk
@@ -201,86 +201,85 @@ calls_decoded behind (asks.Call made) = call_of behind made ∷ []
 calls_decoded behind _ = []
 
 -- a decoding with this result: it needs more bytes, and nothing happens; or it is the event `DecodesRequest`
-abbrev pub DecodingIs : (s : Machine) (before behind : List InFlightChain) (c : InFlightChain)
+abbrev pub DecodingIs : (s : RunState) (before behind : List InFlightChain) (c : InFlightChain)
     (request : List ℕ) (new : ChainHandle) → Decoded → Type 0
-DecodingIs s before behind c request new (asks.More n) = HoldsChain s.page_size c new
-DecodingIs s before behind c request new reported =
-    Happens any_files s (DecodesRequest c request (calls_decoded (drop 80 request) reported))
+DecodingIs s before behind c request new (asks.More n) = HoldsInFlight s.page_size c new
+DecodingIs s before behind c request new result =
+    Happens any_files s (DecodesRequest c request (calls_decoded (drop 80 request) result))
     (after_decoding s before behind c request)
     × HoldsUnanswered s.page_size (asked_chain c request s.options []) new
 
 -- so it is in each state of a run in which the handle has the chain, if the session is the run's
-unfoldable pub Decodes : (old new : ChainHandle) → Session → (front : List ℕ) → Decoded → Type 0
-Decodes old new session front reported =
-    (s : Machine) (before behind : List InFlightChain) (c : InFlightChain) (request : List ℕ) →
+unfoldable pub DecodesInRun : (old new : ChainHandle) → Session → (front : List ℕ) → Decoded → Type 0
+DecodesInRun old new session front result =
+    (s : RunState) (before behind : List InFlightChain) (c : InFlightChain) (request : List ℕ) →
     s.chains ≡ before ++ c ∷ behind →
-    HoldsChain s.page_size c old →
+    HoldsInFlight s.page_size c old →
     IsDecodedIn s.page_size s.options session →
     length request ≡ total_len (readable c.descriptors) →
     IsRequestFront front request →
-    DecodingIs s before behind c request new reported
+    DecodingIs s before behind c request new result
 
--- the handle keeps the front of this reply. Behind it are the first of these bytes, as many as the handle
--- told
+-- the handle keeps the front of this reply. After it come the first of these bytes, as many as
+-- `behind` says
 abbrev pub IsRepliedWith : (reply bytes : List ℕ) → state.ChainState → Type 0
-IsRepliedWith reply bytes (at.HasReply out preserved) =
-    reply ≡ front_of preserved ++ take preserved.behind bytes
+IsRepliedWith reply bytes (at.Replied out kept) =
+    reply ≡ front_of kept ++ take kept.behind bytes
 IsRepliedWith reply bytes _ = ⊥
 
 -- a FORGET that the caller owes is answered at any later moment, without the handle: the event
 -- `ReceivesAnswer` too. The handle holds what it held, and no call of the chain is pending
-abbrev pub ForgettingIs : (s : Machine) (before behind : List InFlightChain) (c : InFlightChain)
+abbrev pub ForgettingIs : (s : RunState) (before behind : List InFlightChain) (c : InFlightChain)
     (request : List ℕ) (options : ℕ) (calls : Calls) (new : ChainHandle) → Option (Context × ℕ) → Type 0
 ForgettingIs s before behind c request options calls new None = Unit {0}
 ForgettingIs s before behind c request options calls new (Some node) =
     let forget = Forget node.0 node.1 1 in
     let all = calls ++ (forget, Done) ∷ [] in
     Happens any_files s (ReceivesAnswer c forget Done) (after_answer s before behind c request options all tt)
-    × HoldsChain s.page_size (asked_chain c request options all) new
+    × HoldsInFlight s.page_size (asked_chain c request options all) new
     × ((served_so s.page_size options request (length (addresses_of (writable c.descriptors))) all).calls
     ≡ calls_alone all)
 
--- this call was pending, and is answered: the event `ReceivesAnswer`. `reported.forget` is the FORGET that
--- the
+-- this call was pending, and is answered: the event `ReceivesAnswer`. `result.forget` is the FORGET that the
 -- caller owes then, and the handle's session has the options that the chain leaves. `bytes`: the answer's
 -- data
-abbrev pub AnsweringIs : (s : Machine) (before behind : List InFlightChain) (c : InFlightChain)
-    (request bytes : List ℕ) (options : ℕ) (call : FileCall) (answer : FileAnswer) (reported : Replied)
+abbrev pub AnsweringIs : (s : RunState) (before behind : List InFlightChain) (c : InFlightChain)
+    (request bytes : List ℕ) (options : ℕ) (call : FileCall) (answer : FileAnswer) (result : Replied)
     (new : ChainHandle) → Type 0
-AnsweringIs s before behind c request bytes options call answer reported new =
+AnsweringIs s before behind c request bytes options call answer result new =
     let calls : Calls = (call, answer) ∷ [] in
     let given = served_so s.page_size options request (length (addresses_of (writable c.descriptors)))
     calls in
     let after = after_answer s before behind c request options calls tt in
     Happens any_files s (ReceivesAnswer c call answer) after
-    × HoldsChain s.page_size (asked_chain c request options calls) new
-    × (given.calls ≡ call ∷ forget_calls reported.forget)
+    × HoldsInFlight s.page_size (asked_chain c request options calls) new
+    × (given.calls ≡ call ∷ forget_calls result.forget)
     × (new.session.options.0 ≡ given.options)
     × IsRepliedWith given.reply bytes new.state
     × ForgettingIs after before behind (asked_chain c request options calls) request options calls new
-    reported.forget
+    result.forget
 
 -- so it is for an answer to a decoded chain, with these bytes of data in the reply buffer
-unfoldable pub Answers : (old new : ChainHandle) → made_answer.FileAnswer → Replied → Type 0
-Answers old new answer reported =
-    (s : Machine) (before behind : List InFlightChain) (c : InFlightChain) (request bytes : List ℕ)
+unfoldable pub AnswersInRun : (old new : ChainHandle) → made_answer.FileAnswer → Replied → Type 0
+AnswersInRun old new answer result =
+    (s : RunState) (before behind : List InFlightChain) (c : InFlightChain) (request bytes : List ℕ)
     (options : ℕ) →
     s.chains ≡ before ++ c ∷ behind →
     c.phase ≡ Asked request options [] →
-    HoldsChain s.page_size c old →
+    HoldsInFlight s.page_size c old →
     ReportsBytes bytes answer →
     (call : FileCall) × AnsweringIs s before behind c request bytes options call (answer_of bytes answer)
-    reported
+    result
     new
 
 -- a push returns the stores of the chain's exchange at the queue's next used position, and the reply's front.
 -- The queue's rings are where they were in the run when the chain was popped
-unfoldable pub Pushes : (old new : ChainHandle) → QueueState → (front : List ℕ) → PushStores → Type 0
-Pushes old new q front stores =
+unfoldable pub PushesInRun : (old new : ChainHandle) → QueueState → (front : List ℕ) → PushStores → Type 0
+PushesInRun old new q front stores =
     (page_size : ℕ) (c : InFlightChain) (x : Exchange) →
-    HoldsChain page_size c old →
+    HoldsInFlight page_size c old →
     PushedWith page_size c c.phase x →
-    HoldsChain page_size c new
+    HoldsInFlight page_size c new
     × (stores_of stores.used ≡ stores_after_reply (returning (live_of q)) c.head (length x.reply))
     × (stores.seen_at ≡ seen_at (live_of q))
     × (ring_of (places_in old.regions) c.taken.used ≡ ring_of c.places c.taken.used)
@@ -288,44 +287,44 @@ Pushes old new q front stores =
     × (x.reply ≡ take stores.front_len front ++ behind)
 
 -- the end of a push is the event `PushesChain`, with the stores that the push returned
-unfoldable pub EndsPush : (old : ChainHandle) → (q q' : QueueState) → (seen : List ℕ) → (notice : Bool) →
+unfoldable pub EndsPushInRun : (old : ChainHandle) → (q q' : QueueState) → (seen : List ℕ) → (notice : Bool) →
     Type 0
-EndsPush old q q' seen notice =
-    (s : Machine) (before behind : List InFlightChain) (c : InFlightChain) (x : Exchange) (last : ℕ) →
+EndsPushInRun old q q' seen notice =
+    (s : RunState) (before behind : List InFlightChain) (c : InFlightChain) (x : Exchange) (last : ℕ) →
     s.chains ≡ before ++ c ∷ behind →
-    IsQueue s c.queue q →
-    HoldsChain s.page_size c old →
+    IsRunQueue s c.queue q →
+    HoldsInFlight s.page_size c old →
     PushedWith s.page_size c c.phase x →
     let after = after_push s before behind c (live_of q) in
     Happens any_files s
     (PushesChain c x notice last (stores_after_reply (returning (live_of q)) c.head (length x.reply)) seen)
     after
-    × IsQueue after c.queue q'
+    × IsRunQueue after c.queue q'
 
 -- ---- the other ends of a chain
 
 -- giving up a chain is the event `GivesUpChain`. A handle that has none is freed, and its queue stays
-unfoldable pub GivesUp : (old new : ChainHandle) → (q q' : QueueState) → Type 0
-GivesUp old new q q' =
-    (s : Machine) (before behind : List InFlightChain) (c : InFlightChain) →
+unfoldable pub GivesUpInRun : (old new : ChainHandle) → (q q' : QueueState) → Type 0
+GivesUpInRun old new q q' =
+    (s : RunState) (before behind : List InFlightChain) (c : InFlightChain) →
     s.chains ≡ before ++ c ∷ behind →
-    IsQueue s c.queue q →
-    HoldsChain s.page_size c old →
+    IsRunQueue s c.queue q →
+    HoldsInFlight s.page_size c old →
     let after = after_giving_up s before behind c (live_of q) in
-    Happens any_files s (GivesUpChain c) after × IsQueue after c.queue q' × (new.state ≡ at.Free)
+    Happens any_files s (GivesUpChain c) after × IsRunQueue after c.queue q' × (new.state ≡ at.Free)
 
 -- a handle in this state has the chain, and its reply isn't known. The file system may have answered some of
 -- its calls
 abbrev pub HasUnreplied : InFlightChain → state.ChainState → Type 0
-HasUnreplied c (at.Taken out) = IsOutAs c out
-HasUnreplied c (at.Waits out waiting) = IsOutAs c out
-HasUnreplied c (at.Lists out listing) = IsOutAs c out
+HasUnreplied c (at.Popped out) = IsOutAs c out
+HasUnreplied c (at.Decoded out waiting) = IsOutAs c out
+HasUnreplied c (at.Listing out listing) = IsOutAs c out
 HasUnreplied c _ = ⊥
 
 -- a reply of the caller's own bytes is the event `RepliesOwnBytes`, with any options of the session then
-unfoldable pub RepliesOwn : (old new : ChainHandle) → (len : ℕ) → Type 0
-RepliesOwn old new len =
-    (s : Machine) (before behind : List InFlightChain) (c : InFlightChain) (request reply : List ℕ)
+unfoldable pub RepliesOwnInRun : (old new : ChainHandle) → (len : ℕ) → Type 0
+RepliesOwnInRun old new len =
+    (s : RunState) (before behind : List InFlightChain) (c : InFlightChain) (request reply : List ℕ)
     (options : ℕ) →
     s.chains ≡ before ++ c ∷ behind →
     HasUnreplied c old.state →
@@ -333,41 +332,42 @@ RepliesOwn old new len =
     length reply ≡ len →
     Happens any_files s (RepliesOwnBytes c request reply options)
     (after_own s before behind c request reply options)
-    × HoldsChain s.page_size (record c { phase = Own request reply }) new
+    × HoldsInFlight s.page_size (record c { phase = Own request reply }) new
 
 -- ---- a pop's calls
 
 -- the chain that a pop ended with is in the handle
-abbrev pub HasPopped :
-    (s : Machine) → (i : ℕ) → LiveQueue → Loaded → comes.CourseStep → ChainHandle → Type 0
-HasPopped s i q loaded (step.Chain head fault) w =
-    HoldsChain s.page_size (new_chain s i q loaded w.descriptors.items head fault) w
-HasPopped s i q loaded _ w = w.state ≡ at.Free
+abbrev pub HoldsPopped :
+    (s : RunState) → (i : ℕ) → LiveQueue → Loaded → comes.CourseStep → ChainHandle → Type 0
+HoldsPopped s i q loaded (step.Chain head fault) w =
+    HoldsInFlight s.page_size (new_chain s i q loaded w.descriptors.items head fault) w
+HoldsPopped s i q loaded _ w = w.state ≡ at.Free
 
 -- a pop ended by itself: the event `EndsPop`, by what it is alone
-pub record EndsBy (s : Machine) (i : ℕ) (q q' : QueueState) (loaded : Loaded) (new : ChainHandle)
-    (reported : walked.PopOutcome) : Type 0 where
+pub record EndsBy (s : RunState) (i : ℕ) (q q' : QueueState) (loaded : Loaded) (new : ChainHandle)
+    (result : walked.PopOutcome) : Type 0 where
   pub came : comes.CourseStep
-  pub reported_is : reported ≡ reported_of new.descriptors.items came
+  pub outcome_is : result ≡ outcome_of new.descriptors.items came
   pub happens : EndsPopSo s i loaded new.descriptors.items came
       (after_pop s i (live_of q) loaded new.descriptors.items came)
-  pub queue : IsQueue (after_pop s i (live_of q) loaded new.descriptors.items came) i q'
-  pub has : HasPopped s i (live_of q) loaded came new
+  pub queue : IsRunQueue (after_pop s i (live_of q) loaded new.descriptors.items came) i q'
+  pub has : HoldsPopped s i (live_of q) loaded came new
 
 -- the queue refused it without looking: the event `RefusesPop`
-pub record RefusedBy (s : Machine) (i : ℕ) (q q' : QueueState) (new : ChainHandle)
-    (reported : walked.PopOutcome) : Type 0 where
+pub record RefusedBy (s : RunState) (i : ℕ) (q q' : QueueState) (new : ChainHandle)
+    (result : walked.PopOutcome) : Type 0 where
   pub error : QueueError
-  pub reported_is : reported ≡ shows.Refused error
-  pub after : Machine
+  pub outcome_is : result ≡ shows.Refused error
+  pub after : RunState
   pub happens : Happens any_files s (RefusesPop i error) after
-  pub queue : IsQueue after i q'
+  pub queue : IsRunQueue after i q'
   pub free : new.state ≡ at.Free
 
 -- which addresses a pop misses after these loads. If used_event and avail_event of its queue are mapped, it
 -- misses the first addresses that it needs next, for this access. If they aren't (`fault`), it misses the
 -- first of theirs, before any load
-abbrev pub MissesUnless : (fault : Option QueueError) → (s : Machine) → LiveQueue → Loaded → List Descriptor →
+abbrev pub MissesUnless : (fault : Option QueueError) → (s : RunState) → LiveQueue → Loaded →
+    List Descriptor →
     IovaRange → Permissions → Type 0
 MissesUnless None s w loaded ds range access = Misses s.places s.limit w.queue loaded ds range access
 MissesUnless (Some fault) s w loaded ds range access =
@@ -375,7 +375,7 @@ MissesUnless (Some fault) s w loaded ds range access =
 
 -- a call of a pop came to this after these loads: it asks for more, and nothing happens; it misses these
 -- addresses, and nothing happened; it ended; or the queue refused it
-abbrev pub PopIs : (s : Machine) (i : ℕ) (q q' : QueueState) (p : Pop) (new : ChainHandle) →
+abbrev pub PopIs : (s : RunState) (i : ℕ) (q q' : QueueState) (p : Pop) (new : ChainHandle) →
     walked.PopOutcome → Type 0
 PopIs s i q q' p new (shows.Load n) = HoldsPop s.limit p new × (q' ≡ q)
 PopIs s i q q' p new (shows.Missing range access) =
@@ -383,45 +383,45 @@ PopIs s i q q' p new (shows.Missing range access) =
     × (q' ≡ q)
     × MissesUnless (pop_refusal s.places (live_of q)) s (live_of q) p.loaded new.descriptors.items range
     access
-PopIs s i q q' p new reported = EndsBy s i q q' p.loaded new reported ⊎ RefusedBy s i q q' new reported
+PopIs s i q q' p new result = EndsBy s i q q' p.loaded new result ⊎ RefusedBy s i q q' new result
 
 -- a pop that begins
 unfoldable pub BeginsAPop : (old new : ChainHandle) → (q q' : QueueState) → outcome.LoadOutcome → Type 0
 BeginsAPop old new q q' outcomes.Part = ⊥
-BeginsAPop old new q q' (outcomes.On reported) =
-    (s : Machine) (i : ℕ) →
-    IsQueue s i q →
+BeginsAPop old new q q' (outcomes.On result) =
+    (s : RunState) (i : ℕ) →
+    IsRunQueue s i q →
     s.places ≡ places_in old.regions →
     s.limit ≡ old.limit →
     s.limit ≤ 2 ^ 31 →
-    PopIs s i q q' (pop_of q nothing) new reported
+    PopIs s i q q' (pop_of q nothing) new result
 
 -- a pop that continues, in a run whose mappings are those of its beginning. A part of a load adds nothing; a
 -- whole load adds its bytes
-abbrev pub PopContinues : (s : Machine) (i : ℕ) (q q' : QueueState) (p : Pop) (old new : ChainHandle)
+abbrev pub PopContinues : (s : RunState) (i : ℕ) (q q' : QueueState) (p : Pop) (old new : ChainHandle)
     (bytes : List ℕ) →
     outcome.LoadOutcome → Type 0
 PopContinues s i q q' p old new bytes outcomes.Part = HoldsPop s.limit p new × (q' ≡ q)
-PopContinues s i q q' p old new bytes (outcomes.On reported) =
+PopContinues s i q q' p old new bytes (outcomes.On result) =
     (loaded : Loaded)
-    × (q.stopped ≡ None → AddsSo old.state (outcomes.On reported) new.descriptors.items p.loaded
+    × (q.stopped ≡ None → AddsSo old.state (outcomes.On result) new.descriptors.items p.loaded
     (whole old bytes)
     loaded)
-    × PopIs s i q q' (record p { loaded = loaded }) new reported
+    × PopIs s i q q' (record p { loaded = loaded }) new result
 
 unfoldable pub ContinuesAPop :
     (old new : ChainHandle) → (q q' : QueueState) → (bytes : List ℕ) → outcome.LoadOutcome → Type 0
-ContinuesAPop old new q q' bytes reported =
-    (s : Machine) (i : ℕ) (p : Pop) →
+ContinuesAPop old new q q' bytes result =
+    (s : RunState) (i : ℕ) (p : Pop) →
     HoldsPop s.limit p old →
-    IsQueue s i q →
+    IsRunQueue s i q →
     s.places ≡ places_in old.regions →
     IsPopOf q p →
     s.limit ≤ 2 ^ 31 →
-    PopContinues s i q q' p old new bytes reported
+    PopContinues s i q q' p old new bytes result
 
 -- a call of a pop: of a free handle it begins one, of another it continues the one that is under way
 abbrev pub PopsBy : state.ChainState → (old new : ChainHandle) → (q q' : QueueState) → (bytes : List ℕ) →
     outcome.LoadOutcome → Type 0
-PopsBy at.Free old new q q' bytes reported = BeginsAPop old new q q' reported
-PopsBy st old new q q' bytes reported = ContinuesAPop old new q q' bytes reported
+PopsBy at.Free old new q q' bytes result = BeginsAPop old new q q' result
+PopsBy st old new q q' bytes result = ContinuesAPop old new q q' bytes result

@@ -1,5 +1,5 @@
--- A listing that a handle gathers in a run: its entries, its file calls, and its end. Its calls are answered
--- without the handle, which is told of the entries alone.
+-- A listing that a handle gathers in a run: its entries, its file calls, and its end. The caller
+-- makes these calls without the handle, to which it passes the entries alone.
 use Rattle.std.specs.Prelude.{◌≡◌, ℕ, Bool, true, false, IsTrue, List, [], ◌∷◌, ◌++◌, length, take, Option}
 use Rattle.std.specs.Prelude.{Some}
 use Rattle.fs_queue.specs.Taking.{addresses_of, writable}
@@ -13,14 +13,14 @@ use Rattle.server_phases.specs.Gathering as gathering
 use Rattle.server_phases.specs.declared.listing.Listing.{Listing}
 use Rattle.plain_machine.specs.Step.{Calls, calls_alone}
 use Rattle.live_machine.specs.Live.{Asked, Happens, InFlightChain, ReceivesAnswer, after_answer, asked_chain}
-use Rattle.fs_chain.specs.Holds.{HoldsChain, HoldsUnanswered, IsDecodedIn, IsOutAs, Machine, any_files}
+use Rattle.fs_chain.specs.Holds.{HoldsInFlight, HoldsUnanswered, IsDecodedIn, IsOutAs, RunState, any_files}
 use Rattle.fs_chain.specs.Holds.{served_so}
 use Rattle.fs_chain.specs.Orders.{front_of}
 use Rattle.fs_chain.specs.ListingCalls.{Ending, EndsThere, FailsAt, FullAt, NotFound, Unreadable}
 use Rattle.fs_chain.specs.ListingCalls.{calls_so_far, listing_calls, node_back}
 use Rattle.fs_chain.specs.declared.chain_handle.ChainHandle.{ChainHandle}
-use Rattle.fs_chain.specs.declared.listing.Added.{Added}
-use Rattle.fs_chain.specs.declared.listing.Added.TheVariants as added
+use Rattle.fs_chain.specs.declared.listing.AddOutcome.{AddOutcome}
+use Rattle.fs_chain.specs.declared.listing.AddOutcome.TheVariants as added
 use Rattle.fs_chain.specs.declared.state.ChainReply.{ChainReply}
 use Rattle.fs_chain.specs.declared.state.ChainState.TheVariants as at
 use Rattle.fs_chain.specs.declared.state.InFlight.{InFlight}
@@ -31,7 +31,7 @@ pub record HoldsListing (page_size : ℕ) (c : InFlightChain) (es : List Brought
     (list : List ℕ) (w : ChainHandle) : Type 0 where
   pub out : InFlight
   pub listing : Listing
-  pub state : w.state ≡ at.Lists out listing
+  pub state : w.state ≡ at.Listing out listing
   pub is_out : IsOutAs c out
   pub request : List ℕ
   pub options : ℕ
@@ -46,7 +46,7 @@ pub record HoldsListing (page_size : ℕ) (c : InFlightChain) (es : List Brought
 -- ---- the handle's calls
 
 -- an entry that isn't in the list ends it, or fails it with this error
-abbrev pub IsLeftOut : Added → Listing → (list : List ℕ) → Brought → Type 0
+abbrev pub IsLeftOut : AddOutcome → Listing → (list : List ℕ) → Brought → Type 0
 IsLeftOut added.In listing list e = ⊥
 IsLeftOut added.Full listing list e = EndsList listing list e
 IsLeftOut added.NoRoom listing list e = FailsList listing list e EIO
@@ -55,7 +55,7 @@ IsLeftOut added.TooLong listing list e = FailsList listing list e EOVERFLOW
 -- an entry is added to the listing, or it isn't, and the listing stays
 abbrev pub AddingIs : (page_size : ℕ) → InFlightChain → List Brought → Calls → (list list' : List ℕ) →
     Brought →
-    ChainHandle → Added → Type 0
+    ChainHandle → AddOutcome → Type 0
 AddingIs page_size c es calls list list' e new added.In =
     HoldsListing page_size c (es ++ e ∷ []) calls list' new
 AddingIs page_size c es calls list list' e new why =
@@ -64,11 +64,12 @@ AddingIs page_size c es calls list list' e new why =
     × (list' ≡ list)
 
 -- so it is for an entry that is brought to a listing that the handle gathers
-unfoldable pub AddsEntry : (old new : ChainHandle) → (list list' : List ℕ) → Brought → Added → Type 0
-AddsEntry old new list list' e reported =
+unfoldable pub AddsEntryInRun : (old new : ChainHandle) → (list list' : List ℕ) → Brought → AddOutcome →
+    Type 0
+AddsEntryInRun old new list list' e result =
     (page_size : ℕ) (c : InFlightChain) (es : List Brought) (calls : Calls) →
     HoldsListing page_size c es calls list old →
-    AddingIs page_size c es calls list list' e new reported
+    AddingIs page_size c es calls list list' e new result
 
 -- a listing may end so by the entries that were added
 abbrev pub MayEnd : Listing → (list : List ℕ) → Ending → Type 0
@@ -88,18 +89,18 @@ MayFail errno listing list _ = ⊥
 -- No call of it is pending
 pub record HasListed (page_size : ℕ) (c : InFlightChain) (calls : Calls) (list : List ℕ) (request : List ℕ)
     (options : ℕ) (out : InFlight) (len : ℕ) (new : ChainHandle) : Type 0 where
-  pub holds : HoldsChain page_size c new
-  pub preserved : ChainReply
-  pub state : new.state ≡ at.HasReply out preserved
-  pub reply : (served_so page_size options request out.room_len calls).reply ≡ front_of preserved
+  pub holds : HoldsInFlight page_size c new
+  pub kept : ChainReply
+  pub state : new.state ≡ at.Replied out kept
+  pub reply : (served_so page_size options request out.room_len calls).reply ≡ front_of kept
       ++ take len list
   pub none_pending :
       (served_so page_size options request (length (addresses_of (writable c.descriptors))) calls).calls
       ≡ calls_alone calls
 
 -- the end of a listing whose calls were answered
-unfoldable pub EndsListing : (old new : ChainHandle) → (len : ℕ) → Type 0
-EndsListing old new len =
+unfoldable pub EndsListingInRun : (old new : ChainHandle) → (len : ℕ) → Type 0
+EndsListingInRun old new len =
     (page_size : ℕ) (c : InFlightChain) (es : List Brought) (ending : Ending) (calls : Calls) (list : List ℕ)
     → (held : HoldsListing page_size c es calls list old) →
     MayEnd held.listing list ending →
@@ -107,8 +108,8 @@ EndsListing old new len =
     HasListed page_size c calls list held.request held.options held.out len new
 
 -- the same, of one that failed
-unfoldable pub FailsListing : (errno : ℕ) → (old new : ChainHandle) → (len : ℕ) → Type 0
-FailsListing errno old new len =
+unfoldable pub FailsListingInRun : (errno : ℕ) → (old new : ChainHandle) → (len : ℕ) → Type 0
+FailsListingInRun errno old new len =
     (page_size : ℕ) (c : InFlightChain) (es : List Brought) (ending : Ending) (calls : Calls) (list : List ℕ)
     → (held : HoldsListing page_size c es calls list old) →
     MayFail errno held.listing list ending →
@@ -122,7 +123,7 @@ abbrev pub BeginsListing : Type 0
 BeginsListing =
     (page_size : ℕ) (c : InFlightChain) (w : ChainHandle) (out : InFlight) (listing : Listing)
     (list : List ℕ) →
-    w.state ≡ at.Lists out listing →
+    w.state ≡ at.Listing out listing →
     HoldsUnanswered page_size c w →
     HoldsListing page_size c [] [] list w
 
@@ -143,10 +144,10 @@ ListingIsHeld =
     (page_size : ℕ) (c : InFlightChain) (es : List Brought) (calls : Calls) (list : List ℕ)
     (w : ChainHandle) →
     HoldsListing page_size c es calls list w →
-    HoldsChain page_size c w
+    HoldsInFlight page_size c w
 
 -- a call of the listing is answered: the event `ReceivesAnswer`. The handle holds what it held
-abbrev pub ListingCallIs : (s : Machine) (before behind : List InFlightChain) (c : InFlightChain)
+abbrev pub ListingCallIs : (s : RunState) (before behind : List InFlightChain) (c : InFlightChain)
     (es : List Brought) (earlier : Calls) (list : List ℕ) (w : ChainHandle) (request : List ℕ) (options : ℕ)
     (call : FileCall) (answer : FileAnswer) → Type 0
 ListingCallIs s before behind c es earlier list w request options call answer =
@@ -158,7 +159,8 @@ ListingCallIs s before behind c es earlier list w request options call answer =
 -- so it is for the reading of the directory, with any answer
 abbrev pub ReadsDirectory : Type 0
 ReadsDirectory =
-    (s : Machine) (before behind : List InFlightChain) (c : InFlightChain) (es : List Brought) (list : List ℕ)
+    (s : RunState) (before behind : List InFlightChain) (c : InFlightChain) (es : List Brought)
+    (list : List ℕ)
     (w : ChainHandle) (answer : FileAnswer) →
     s.chains ≡ before ++ c ∷ behind →
     (held : HoldsListing s.page_size c es [] list w) →
@@ -167,9 +169,9 @@ ReadsDirectory =
 
 -- for that and the look-ups of the entries, of which the next one may be looked up before it is added, or not
 -- found
-abbrev pub LooksUp : Type 0
-LooksUp =
-    (s : Machine) (before behind : List InFlightChain) (c : InFlightChain) (es : List Brought)
+abbrev pub LooksUpEntries : Type 0
+LooksUpEntries =
+    (s : RunState) (before behind : List InFlightChain) (c : InFlightChain) (es : List Brought)
     (others : List Listed) (next : Option FileAnswer) (list : List ℕ) (w : ChainHandle)
     (earlier later : Calls)
     (call : FileCall) (answer : FileAnswer) →
@@ -189,8 +191,8 @@ calls_left_out call with_nodes es e others =
 -- and for these
 abbrev pub LeavesOut : Type 0
 LeavesOut =
-    (s : Machine) (before behind : List InFlightChain) (c : InFlightChain) (es : List Brought) (e : Brought)
-    (others : List Listed) (why : Added) (list : List ℕ) (w : ChainHandle) (earlier later : Calls)
+    (s : RunState) (before behind : List InFlightChain) (c : InFlightChain) (es : List Brought) (e : Brought)
+    (others : List Listed) (why : AddOutcome) (list : List ℕ) (w : ChainHandle) (earlier later : Calls)
     (call : FileCall) (answer : FileAnswer) →
     s.chains ≡ before ++ c ∷ behind →
     (held : HoldsListing s.page_size c es earlier list w) →

@@ -11,7 +11,7 @@ use Rattle.fs_chain.specs.declared.queue.QueueState.{QueueState}
 use Rattle.fs_chain.specs.declared.popping.PopOutcome as walked
 use Rattle.fs_chain.specs.declared.popping.PopOutcome.TheVariants as reports
 use Rattle.fs_chain.specs.declared.chain_handle.ChainHandle.{ChainHandle}
-use Rattle.fs_chain.specs.Holds.{EndsBy, IsQueue, Machine, live_of}
+use Rattle.fs_chain.specs.Holds.{EndsBy, IsRunQueue, RunState, live_of}
 
 -- the result of a pop, with these descriptors, is this offer. For a chain without a fault that holds if
 -- `request` has the length of its request; a load or a miss decides nothing yet
@@ -28,11 +28,11 @@ IsOfferOf ds _ request o = Unit {0}
 -- loads of the pop, and the request's bytes
 abbrev pub WalksAreOffers : Type 0
 WalksAreOffers =
-    (s : Machine) (i : ℕ) (q q' : QueueState) (loaded : Loaded) (new : ChainHandle)
-    (reported : walked.PopOutcome) (h : Host) (regions : Mapped) (request : List ℕ) →
-    IsQueue s i q →
-    EndsBy s i q q' loaded new reported →
+    (s : RunState) (i : ℕ) (q q' : QueueState) (loaded : Loaded) (new : ChainHandle)
+    (result : walked.PopOutcome) (h : Host) (regions : Mapped) (request : List ℕ) →
+    IsRunQueue s i q →
+    EndsBy s i q q' loaded new result →
     s.places ≡ places_in regions →
     HasLoaded (memory_over h regions) (live_of q).queue loaded request →
-    IsOfferOf new.descriptors.items reported request
+    IsOfferOf new.descriptors.items result request
     (offer (memory_over h regions) s.limit (live_of q).queue)

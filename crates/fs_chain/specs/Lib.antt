@@ -20,7 +20,7 @@ pub mod Pops
 pub mod Queues
 pub mod Rings
 pub mod Pushes
-pub mod Serials
+pub mod Tickets
 pub mod Walks
 pub mod Tables
 pub mod Together

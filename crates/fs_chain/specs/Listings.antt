@@ -17,22 +17,22 @@ use Rattle.server_phases.specs.Gathering.{look_ups, put_at, served_list}
 use Rattle.server_phases.specs.Waiting.{first_call}
 use Rattle.fs_chain.specs.declared.error.ChainError.{ChainError}
 use Rattle.fs_chain.specs.declared.error.ChainError.TheVariants as error
-use Rattle.fs_chain.specs.declared.listing.Added.{Added}
-use Rattle.fs_chain.specs.declared.listing.Added.TheVariants as added
+use Rattle.fs_chain.specs.declared.listing.AddOutcome.{AddOutcome}
+use Rattle.fs_chain.specs.declared.listing.AddOutcome.TheVariants as added
 use Rattle.fs_chain.specs.declared.state.InFlight.{InFlight}
 use Rattle.fs_chain.specs.declared.state.ChainState as state
 use Rattle.fs_chain.specs.declared.state.ChainState.TheVariants as at
 use Rattle.fs_chain.specs.declared.chain_handle.ChainHandle.{ChainHandle}
-use Rattle.fs_chain.specs.Serials.{serial_error}
+use Rattle.fs_chain.specs.Tickets.{ticket_error}
 
 -- the result that is returned for an entry
-abbrev pub reported_added : Result (Unit {0}) reason.NotAdded → Result Added ChainError
-reported_added (Ok done) = Ok added.In
-reported_added (Err not_added.OtherKind) = Err error.OtherKind
-reported_added (Err not_added.Full) = Ok added.Full
-reported_added (Err not_added.NoRoom) = Ok added.NoRoom
-reported_added (Err not_added.TooLong) = Ok added.TooLong
-reported_added (Err not_added.ShortList) = Err error.ShortBuffer
+abbrev pub added_of : Result (Unit {0}) reason.NotAdded → Result AddOutcome ChainError
+added_of (Ok done) = Ok added.In
+added_of (Err not_added.OtherKind) = Err error.OtherKind
+added_of (Err not_added.Full) = Ok added.Full
+added_of (Err not_added.NoRoom) = Ok added.NoRoom
+added_of (Err not_added.TooLong) = Ok added.TooLong
+added_of (Err not_added.ShortList) = Err error.ShortBuffer
 
 -- how an entry changes a listing and its list, and the consequences if it isn't added. If it is added, its
 -- bytes are put into the list behind the entries before it; no other byte changes
@@ -58,36 +58,36 @@ pub record Adds (old new : Listing) (list list' : List ℕ) (e : Brought)
 -- the caller adds an entry to the listing that is being answered, with this result; every other state
 -- refuses it
 abbrev pub AddsTo : (old new : state.ChainState) → (list list' : List ℕ) → Brought →
-    (outcome : Listing → Result (Unit {0}) reason.NotAdded) → Result Added ChainError → Type 0
-AddsTo (at.Lists out l) new list list' e outcome reported =
-    (reported ≡ reported_added (outcome l))
-    × ((now : Listing) × (new ≡ at.Lists out now) × Adds l now list list' e (outcome l))
-AddsTo (at.Waits out w) new list list' e outcome reported =
-    (reported ≡ Err error.OtherKind) × (new ≡ at.Waits out w) × (list' ≡ list)
-AddsTo old new list list' e outcome reported =
-    (reported ≡ Err error.WrongOrder) × (new ≡ old) × (list' ≡ list)
+    (outcome : Listing → Result (Unit {0}) reason.NotAdded) → Result AddOutcome ChainError → Type 0
+AddsTo (at.Listing out l) new list list' e outcome result =
+    (result ≡ added_of (outcome l))
+    × ((now : Listing) × (new ≡ at.Listing out now) × Adds l now list list' e (outcome l))
+AddsTo (at.Decoded out w) new list list' e outcome result =
+    (result ≡ Err error.OtherKind) × (new ≡ at.Decoded out w) × (list' ≡ list)
+AddsTo old new list list' e outcome result =
+    (result ≡ Err error.WrongOrder) × (new ≡ old) × (list' ≡ list)
 
 -- the length of the list that has the listing's entries, after a call that added one or none
-abbrev pub list_after : (before len : ℕ) → Result Added ChainError → ℕ
+abbrev pub list_after : (before len : ℕ) → Result AddOutcome ChainError → ℕ
 list_after before len (Ok added.In) = len
 list_after before len _ = before
 
 -- why an entry can't be added to a list of this length: the entries so far are in a list of another
 -- length. `before` is 0 if there are none
 abbrev pub list_error : state.ChainState → (before len : ℕ) → Option ChainError
-list_error (at.Lists out l) before len =
+list_error (at.Listing out l) before len =
     if not (before == 0) && not (before == len) then Some error.BadArgument else None
 list_error _ before len = None
 
 -- why an entry with this number can't be added: no call is in flight, another one is, or the list is
 -- another one
-abbrev pub adding_error : ChainHandle → (serial len : ℕ) → Option ChainError
-adding_error w serial len =
-    option_or (serial_error w.state w.serial serial) (list_error w.state w.list_len len)
+abbrev pub adding_error : ChainHandle → (ticket len : ℕ) → Option ChainError
+adding_error w ticket len =
+    option_or (ticket_error w.state w.ticket ticket) (list_error w.state w.list_len len)
 
 -- the handle keeps a listing's reply: its front, and how many bytes of the list are its data
 abbrev pub answered_by : InFlight → ListingReply → state.ChainState
-answered_by out reply = at.HasReply out (record { front = Some reply.front; behind = reply.len })
+answered_by out reply = at.Replied out (record { front = Some reply.front; behind = reply.len })
 
 -- the reply to a listing that has these entries
 abbrev pub IsListReply : Listing → ListingReply → Type 0
@@ -120,15 +120,15 @@ pub record IsFailedReply (l : Listing) (errno : ℕ) (reply : ListingReply) : Ty
 -- a listing that is being answered ends with its reply; every other state refuses
 abbrev pub RepliesBy :
     (Listing → ListingReply → Type 0) → (old new : state.ChainState) → Result ℕ ChainError → Type 0
-RepliesBy P (at.Lists out l) new reported =
-    (reply : ListingReply) × (reported ≡ Ok reply.len) × (new ≡ answered_by out reply) × P l reply
-RepliesBy P (at.Waits out w) new reported = (reported ≡ Err error.OtherKind) × (new ≡ at.Waits out w)
-RepliesBy P old new reported = (reported ≡ Err error.WrongOrder) × (new ≡ old)
+RepliesBy P (at.Listing out l) new result =
+    (reply : ListingReply) × (result ≡ Ok reply.len) × (new ≡ answered_by out reply) × P l reply
+RepliesBy P (at.Decoded out w) new result = (result ≡ Err error.OtherKind) × (new ≡ at.Decoded out w)
+RepliesBy P old new result = (result ≡ Err error.WrongOrder) × (new ≡ old)
 
 -- it ends with the entries so far
 abbrev pub EndsByEntries : (old new : state.ChainState) → Result ℕ ChainError → Type 0
-EndsByEntries old new reported = RepliesBy IsListReply old new reported
+EndsByEntries old new result = RepliesBy IsListReply old new result
 
 -- it ends with an error
 abbrev pub EndsByError : (errno : ℕ) → (old new : state.ChainState) → Result ℕ ChainError → Type 0
-EndsByError errno old new reported = RepliesBy (λ l reply. IsFailedReply l errno reply) old new reported
+EndsByError errno old new result = RepliesBy (λ l reply. IsFailedReply l errno reply) old new result

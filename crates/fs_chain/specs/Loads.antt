@@ -14,13 +14,13 @@ use Rattle.fs_chain.specs.declared.loads.LoadOutcome as outcome
 use Rattle.fs_chain.specs.declared.loads.LoadOutcome.TheVariants as proceeds
 use Rattle.fs_chain.specs.declared.queue.QueueState.{QueueState}
 use Rattle.fs_chain.specs.declared.chain_handle.ChainHandle.{ChainHandle}
-use Rattle.fs_chain.specs.Orders.{IfWalking, IsWalking, load_len, walk_error}
+use Rattle.fs_chain.specs.Orders.{IfPopping, IsPopping, load_len, walk_error}
 use Rattle.fs_chain.specs.Walks.{IsAllBut, IsAllButPart, LacksRoom, WalksOn}
 
 -- the window of the bytes that a pop still needs, after the first `from` bytes of its load: it ends with
 -- their region and mapping at the latest
 abbrev pub IsLoadWindow : ChainHandle → (from : ℕ) → Window → Type 0
-IsLoadWindow w from v = IsWalking w.state × IfWalking w.state (λ walk.
+IsLoadWindow w from v = IsPopping w.state × IfPopping w.state (λ walk.
     (from < asked_len walk)
     × IsWindowAt (location (places_in w.regions) Read) (asked_by walk + from) (asked_len walk - from) v
     × (v.len ≡ min (asked_len walk - from) (left_in (places_in w.regions) (asked_by walk + from))))
@@ -28,7 +28,7 @@ IsLoadWindow w from v = IsWalking w.state × IfWalking w.state (λ walk.
 -- the bytes that a pop still needs aren't mapped
 abbrev pub HasNoPlace : ChainHandle → (from : ℕ) → Type 0
 HasNoPlace w from =
-    IfWalking w.state (λ walk. from < asked_len walk →
+    IfPopping w.state (λ walk. from < asked_len walk →
     location (places_in w.regions) Read (asked_by walk + from) ≡ None)
 
 -- how many bytes of the load the handle has
@@ -65,12 +65,12 @@ ProceedsSo w q loaded proceeds.Part w' q' =
     × IsAllButPart w w'
     × (w'.part.items ≡ w.part.items ++ loaded)
     × (q' ≡ q)
-ProceedsSo w q loaded (proceeds.On reported) w' q' =
+ProceedsSo w q loaded (proceeds.On result) w' q' =
     ((load_len w.state ≡ 0) ⊎ AreWhole w (length loaded) ⊎ AreWanted w (length loaded))
     × (w'.part.items ≡ [])
     × (w'.session ≡ w.session)
     × (walk_error w.state q (length (whole w loaded)) ≡ None)
-    × WalksOn (whole w loaded) w w' q q' reported
+    × WalksOn (whole w loaded) w w' q q' result
 
 -- nothing changed: regions, limit, state, descriptors, the part of a load, and session are as they were
 abbrev pub IsSame : ChainHandle → ChainHandle → Type 0
@@ -102,8 +102,8 @@ LoadLacksMemory w len =
 -- why a pop doesn't continue with these bytes, in three cases. The state or the queue forbids it, also
 -- if they are only a part of the load. Or nothing else is wrong, and the allocation failed. Or they are
 -- neither the whole load nor the part that is needed
-abbrev pub RefusesWalk : ChainHandle → QueueState → (loaded : List ℕ) → ChainError → Type 0
-RefusesWalk w q loaded e =
+abbrev pub RefusesAPop : ChainHandle → QueueState → (loaded : List ℕ) → ChainError → Type 0
+RefusesAPop w q loaded e =
     (AreDue w loaded × (walk_error w.state q (due_len w loaded) ≡ Some e))
     ⊎ ((e ≡ OutOfMemory)
     × LoadLacksMemory w (length loaded)

@@ -14,10 +14,10 @@ abbrev pub recorded : QueueState → Queue
 recorded q = (live_of q).queue
 
 -- queues are reset from those of a record: each at its position, stopped or not
-pub record AreResetBy (queues : List Queue) (preserved : List QueueState) : Type 0 where
-  pub same : map recorded preserved ≡ queues
-  pub positions_agree : AllByRecursion HasNoneInFlight (map live_of preserved)
-  pub few : AllByRecursion HasValidMaximum (map live_of preserved)
+pub record AreResetBy (queues : List Queue) (kept : List QueueState) : Type 0 where
+  pub same : map recorded kept ≡ queues
+  pub positions_agree : AllByRecursion HasNoneInFlight (map live_of kept)
+  pub few : AllByRecursion HasValidMaximum (map live_of kept)
 
 -- making a record of a run's options and queues while no chain is in flight, and reading it elsewhere,
 -- is the event `MovesDevice`. The options that are read are the run's. The queues that are reset from the

@@ -22,9 +22,9 @@ chain_error_number error.OtherTable = 80
 -- the number of each state of a chain
 abbrev pub state_number : state.ChainState → ℕ
 state_number at.Free = 1
-state_number (at.Walking course pop_id walk) = 2
-state_number (at.Taken out) = 3
-state_number (at.Waits out waiting) = 4
-state_number (at.Lists out listing) = 5
-state_number (at.HasReply out reply) = 6
+state_number (at.Popping course pop_id walk) = 2
+state_number (at.Popped out) = 3
+state_number (at.Decoded out waiting) = 4
+state_number (at.Listing out listing) = 5
+state_number (at.Replied out reply) = 6
 state_number (at.Pushing out) = 7

@@ -23,22 +23,22 @@ use Rattle.fs_chain.specs.Rings.{is_same_ring, ring_of}
 -- whether a chain is in flight, of any queue
 abbrev pub is_out : state.ChainState → Bool
 is_out at.Free = false
-is_out (at.Walking course pop_id walk) = false
+is_out (at.Popping course pop_id walk) = false
 is_out _ = true
 
 -- P, if a pop asks for a load
-abbrev pub IfWalking : state.ChainState → (QueueWalk → Type 0) → Type 0
-IfWalking (at.Walking course pop_id walk) P = P walk
-IfWalking _ P = Unit {0}
+abbrev pub IfPopping : state.ChainState → (QueueWalk → Type 0) → Type 0
+IfPopping (at.Popping course pop_id walk) P = P walk
+IfPopping _ P = Unit {0}
 
 -- a pop asks for a load
-abbrev pub IsWalking : state.ChainState → Type 0
-IsWalking (at.Walking course pop_id walk) = Unit {0}
-IsWalking _ = ⊥
+abbrev pub IsPopping : state.ChainState → Type 0
+IsPopping (at.Popping course pop_id walk) = Unit {0}
+IsPopping _ = ⊥
 
 -- how many table entries the pop asks for; their descriptors may join the chain
 abbrev pub entries_asked : state.ChainState → ℕ
-entries_asked (at.Walking course pop_id walk) = asked_entries walk
+entries_asked (at.Popping course pop_id walk) = asked_entries walk
 entries_asked _ = 0
 
 -- why the handle can't take another memory and limit
@@ -62,12 +62,12 @@ give_error q course pop_id asked len =
 -- why a call of `pop` changes nothing, other than for lack of memory
 abbrev pub walk_error : state.ChainState → QueueState → (len : ℕ) → Option ChainError
 walk_error at.Free q len = begin_error q len
-walk_error (at.Walking course pop_id walk) q len = give_error q course pop_id (asked_len walk) len
+walk_error (at.Popping course pop_id walk) q len = give_error q course pop_id (asked_len walk) len
 walk_error _ q len = Some WrongOrder
 
 -- why a request can't be decoded from `len` bytes
 abbrev pub ask_error : state.ChainState → (len : ℕ) → Option ChainError
-ask_error (at.Taken out) len = if nat_lt out.request_len len then Some BadArgument else None
+ask_error (at.Popped out) len = if nat_lt out.request_len len then Some BadArgument else None
 ask_error _ len = Some WrongOrder
 
 -- the bytes of a reply's front: none, if there is no front
@@ -88,14 +88,14 @@ reply_len out r = min (min (front_len r + r.behind) out.room_len) (2 ^ 32 - 1)
 
 -- whether the queue's rings are where they were when the chain was popped: a push uses the table of its pop
 abbrev pub has_ring : state.ChainState → Mapped → Bool
-has_ring (at.HasReply out reply) g =
+has_ring (at.Replied out reply) g =
     is_same_ring out.pop_id.ring (ring_of (places_in g) out.course.layout.used)
 has_ring _ g = true
 
 -- why a chain can't be pushed with a buffer of `len` bytes for its front. `ring`: whether the queue's rings
 -- are where they were
 abbrev pub push_error : (ring : Bool) → state.ChainState → QueueState → (len : ℕ) → Option ChainError
-push_error ring (at.HasReply out reply) q len =
+push_error ring (at.Replied out reply) q len =
     if not (is_in_flight_of q out) then Some OtherQueue
     else if q.pushing then Some Pushing
     else if not ring then Some OtherTable
@@ -104,8 +104,8 @@ push_error ring (at.HasReply out reply) q len =
 push_error ring _ q len = Some WrongOrder
 
 -- the same, if the rings are where they were
-abbrev pub return_error : state.ChainState → QueueState → (len : ℕ) → Option ChainError
-return_error st q len = push_error true st q len
+abbrev pub push_refusal : state.ChainState → QueueState → (len : ℕ) → Option ChainError
+push_refusal st q len = push_error true st q len
 
 -- why a push can't be ended
 abbrev pub end_error : state.ChainState → QueueState → Option ChainError
@@ -116,8 +116,8 @@ end_error _ q = Some WrongOrder
 -- without
 abbrev pub give_up_error : state.ChainState → QueueState → Option ChainError
 give_up_error at.Free q = None
-give_up_error (at.Walking course pop_id walk) q = None
-give_up_error (at.Taken out) q =
+give_up_error (at.Popping course pop_id walk) q = None
+give_up_error (at.Popped out) q =
     if not (is_in_flight_of q out) then Some OtherQueue
     else if not (is_last q out) then Some WrongOrder
     else None
@@ -130,12 +130,12 @@ is_free _ = false
 
 -- whether a listing gathers entries
 abbrev pub is_listing : state.ChainState → Bool
-is_listing (at.Lists out listing) = true
+is_listing (at.Listing out listing) = true
 is_listing _ = false
 
 -- how many bytes of a load the pop asks for; 0 if there is none
 abbrev pub load_len : state.ChainState → ℕ
-load_len (at.Walking course pop_id walk) = asked_len walk
+load_len (at.Popping course pop_id walk) = asked_len walk
 load_len _ = 0
 
 -- how many bytes of data a call can be answered with, if it is a READ
@@ -145,14 +145,14 @@ file_limit _ = None
 
 -- the same of the call in flight
 abbrev pub read_limit : state.ChainState → Option ℕ
-read_limit (at.Waits out waiting) = file_limit waiting.awaits
+read_limit (at.Decoded out waiting) = file_limit waiting.awaits
 read_limit _ = None
 
 -- the length of the chain's reply buffer; 0 if no chain is in flight
 abbrev pub room_len : state.ChainState → ℕ
-room_len (at.Taken out) = out.room_len
-room_len (at.Waits out waiting) = out.room_len
-room_len (at.Lists out listing) = out.room_len
-room_len (at.HasReply out reply) = out.room_len
+room_len (at.Popped out) = out.room_len
+room_len (at.Decoded out waiting) = out.room_len
+room_len (at.Listing out listing) = out.room_len
+room_len (at.Replied out reply) = out.room_len
 room_len (at.Pushing out) = out.room_len
 room_len _ = 0

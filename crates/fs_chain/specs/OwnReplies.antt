@@ -14,9 +14,9 @@ own_reply len = record { front = None; behind = len }
 
 -- P, if the chain has no reply yet: its request wasn't decoded, or its call isn't answered
 abbrev pub IfUnanswered : state.ChainState → (InFlight → Type 0) → Type 0
-IfUnanswered (at.Taken out) P = P out
-IfUnanswered (at.Waits out waiting) P = P out
-IfUnanswered (at.Lists out listing) P = P out
+IfUnanswered (at.Popped out) P = P out
+IfUnanswered (at.Decoded out waiting) P = P out
+IfUnanswered (at.Listing out listing) P = P out
 IfUnanswered _ P = Unit {0}
 
 -- why a reply can't have `len` bytes: the reply buffer is shorter, or they exceed the used element's 32
@@ -26,11 +26,11 @@ own_len_error room len = if nat_lt room len || nat_lt (2 ^ 32 - 1) len then Some
 
 -- why such a reply is refused: the number is another chain's, or the reply is too long; or its chain has a
 -- reply already (`own_error`)
-abbrev pub own_chain_error : (mine serial room len : ℕ) → Option ChainError
-own_chain_error mine serial room len = if not (mine == serial) then Some OtherCall else own_len_error room len
+abbrev pub own_chain_error : (mine ticket room len : ℕ) → Option ChainError
+own_chain_error mine ticket room len = if not (mine == ticket) then Some OtherCall else own_len_error room len
 
-abbrev pub own_error : state.ChainState → (mine serial len : ℕ) → Option ChainError
-own_error (at.Taken out) mine serial len = own_chain_error mine serial out.room_len len
-own_error (at.Waits out waiting) mine serial len = own_chain_error mine serial out.room_len len
-own_error (at.Lists out listing) mine serial len = own_chain_error mine serial out.room_len len
-own_error _ mine serial len = Some WrongOrder
+abbrev pub own_error : state.ChainState → (mine ticket len : ℕ) → Option ChainError
+own_error (at.Popped out) mine ticket len = own_chain_error mine ticket out.room_len len
+own_error (at.Decoded out waiting) mine ticket len = own_chain_error mine ticket out.room_len len
+own_error (at.Listing out listing) mine ticket len = own_chain_error mine ticket out.room_len len
+own_error _ mine ticket len = Some WrongOrder

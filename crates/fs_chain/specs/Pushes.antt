@@ -13,7 +13,7 @@ use Rattle.fs_chain.specs.declared.chain_handle.ChainHandle.{ChainHandle}
 use Rattle.fs_chain.specs.Events.{seen_at}
 use Rattle.fs_chain.specs.Orders.{front_len, front_of, reply_len}
 use Rattle.fs_chain.specs.Queues.{at_return}
-use Rattle.fs_chain.specs.Serials.{freed}
+use Rattle.fs_chain.specs.Tickets.{freed}
 use Rattle.fs_chain.specs.Walks.{IsAllButPart}
 
 -- a buffer with a reply's front over its first bytes
@@ -30,9 +30,9 @@ PushesBy q out reply s =
     × (s.used.flags ≡ out.course.layout.avail)
 
 -- P, if the chain's reply is known
-abbrev pub IfHasReply : state.ChainState → (InFlight → ChainReply → Type 0) → Type 0
-IfHasReply (at.HasReply out reply) P = P out reply
-IfHasReply _ P = Unit {0}
+abbrev pub IfReplied : state.ChainState → (InFlight → ChainReply → Type 0) → Type 0
+IfReplied (at.Replied out reply) P = P out reply
+IfReplied _ P = Unit {0}
 
 -- the handle is free, and keeps no part of a load
 abbrev pub IsFreed : (old new : ChainHandle) → Type 0

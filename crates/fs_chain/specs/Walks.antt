@@ -56,22 +56,22 @@ abbrev pub no_reply : ChainReply
 no_reply = record { front = None; behind = 0 }
 
 -- the result that `pop` returns for this step, with these descriptors
-abbrev pub reported_of : List Descriptor → comes.CourseStep → walked.PopOutcome
-reported_of ds (step.Load walk) = reports.Load (asked_len walk)
-reported_of ds step.Idle = reports.Idle
-reported_of ds (step.Refused e) = reports.Refused e
-reported_of ds (step.Chain head None) = reports.Chain head (count false ds) (count true ds)
-reported_of ds (step.Chain head (Some fault)) = reports.Faulty head fault
-reported_of ds (step.Missing range access) = reports.Missing range access
+abbrev pub outcome_of : List Descriptor → comes.CourseStep → walked.PopOutcome
+outcome_of ds (step.Load walk) = reports.Load (asked_len walk)
+outcome_of ds step.Idle = reports.Idle
+outcome_of ds (step.Refused e) = reports.Refused e
+outcome_of ds (step.Chain head None) = reports.Chain head (count false ds) (count true ds)
+outcome_of ds (step.Chain head (Some fault)) = reports.Faulty head fault
+outcome_of ds (step.Missing range access) = reports.Missing range access
 
 -- the chain's state after this step
 abbrev pub state_after : Course → PopId → List Descriptor → comes.CourseStep → state.ChainState
-state_after course pop_id ds (step.Load walk) = at.Walking course pop_id walk
+state_after course pop_id ds (step.Load walk) = at.Popping course pop_id walk
 state_after course pop_id ds step.Idle = at.Free
 state_after course pop_id ds (step.Refused e) = at.Free
-state_after course pop_id ds (step.Chain head None) = at.Taken (out_of course pop_id head ds)
+state_after course pop_id ds (step.Chain head None) = at.Popped (out_of course pop_id head ds)
 state_after course pop_id ds (step.Chain head (Some fault)) =
-    at.HasReply (faulty_out course pop_id head) no_reply
+    at.Replied (faulty_out course pop_id head) no_reply
 state_after course pop_id ds (step.Missing range access) = at.Free
 
 -- the queue after this step
@@ -100,13 +100,13 @@ abbrev pub IsAllBut : (old new : ChainHandle) → Type 0
 IsAllBut old new =
     (new.regions ≡ old.regions)
     × (new.limit ≡ old.limit)
-    × (new.serial ≡ old.serial)
+    × (new.ticket ≡ old.ticket)
     × (new.list_len ≡ old.list_len)
 
 -- all stays but the chain's state and the length of a listing's list
 abbrev pub IsAllButPlace : (old new : ChainHandle) → Type 0
 IsAllButPlace old new =
-    ((new.regions ≡ old.regions) × (new.limit ≡ old.limit) × (new.serial ≡ old.serial))
+    ((new.regions ≡ old.regions) × (new.limit ≡ old.limit) × (new.ticket ≡ old.ticket))
     × (new.descriptors ≡ old.descriptors)
     × (new.session ≡ old.session)
     × (new.part ≡ old.part)
@@ -125,12 +125,12 @@ abbrev pub DropsDescriptors : (old new : ChainHandle) → Type 0
 DropsDescriptors old new =
     IsAllButPart (record old { descriptors = new.descriptors }) new × (new.descriptors.items ≡ [])
 
--- handle and queue keep the result of a step on this course, and `reported` is returned; of a faulty chain no
+-- handle and queue keep the result of a step on this course, and `result` is returned; of a faulty chain no
 -- descriptor is kept
 abbrev pub KeepsStep : Course → PopId → comes.CourseStep → (old new : ChainHandle) →
     (before after : QueueState) → walked.PopOutcome → Type 0
-KeepsStep course pop_id came old new before after reported =
-    (reported ≡ reported_of new.descriptors.items came)
+KeepsStep course pop_id came old new before after result =
+    (result ≡ outcome_of new.descriptors.items came)
     × (new.state ≡ state_after course pop_id new.descriptors.items came)
     × (after ≡ queue_after before came)
     × LeavesNone came new.descriptors.items
@@ -139,17 +139,17 @@ KeepsStep course pop_id came old new before after reported =
 -- a pop begins: without any load it reaches a step, which is kept and returned
 abbrev pub BeginsOn :
     Course → PopId → (old new : ChainHandle) → (before after : QueueState) → walked.PopOutcome → Type 0
-BeginsOn course pop_id old new before after reported =
-    (came : comes.CourseStep) × KeepsStep course pop_id came old new before after reported
+BeginsOn course pop_id old new before after result =
+    (came : comes.CourseStep) × KeepsStep course pop_id came old new before after result
     × IsCourseStep (places_in old.regions) course.limit (queue_of course) nothing new.descriptors.items came
 
 -- a pop continues with the bytes of a load. For all loads that may have led to its walk, it reaches
 -- this step, which is kept and returned
-abbrev pub Continues : Course → PopId → QueueWalk → (bytes : List ℕ) → (old new : ChainHandle) →
+abbrev pub ContinuesWalk : Course → PopId → QueueWalk → (bytes : List ℕ) → (old new : ChainHandle) →
     (before after : QueueState) → walked.PopOutcome → Type 0
-Continues course pop_id walk bytes old new before after reported =
+ContinuesWalk course pop_id walk bytes old new before after result =
     (came : comes.CourseStep)
-    × KeepsStep course pop_id came old new before after reported
+    × KeepsStep course pop_id came old new before after result
     × ((loaded : Loaded)
     → IsWalkAt (places_in old.regions) (queue_of course) loaded old.descriptors.items walk
     → ComesBy (places_in old.regions) course.limit (queue_of course) loaded walk bytes
@@ -160,51 +160,51 @@ Continues course pop_id walk bytes old new before after reported =
 -- descriptors of an earlier pop
 abbrev pub LacksEvents : QueueError → (miss : Option (IovaRange × Permissions)) → (old new : ChainHandle) →
     (before after : QueueState) → walked.PopOutcome → Type 0
-LacksEvents e (Some miss) old new before after reported =
-    (reported ≡ reports.Missing miss.0 miss.1) × DropsDescriptors old new × (after ≡ before)
-LacksEvents e None old new before after reported =
-    (reported ≡ reports.Refused e) × DropsDescriptors old new × (after ≡ record before { stopped = Some e })
+LacksEvents e (Some miss) old new before after result =
+    (result ≡ reports.Missing miss.0 miss.1) × DropsDescriptors old new × (after ≡ before)
+LacksEvents e None old new before after result =
+    (result ≡ reports.Refused e) × DropsDescriptors old new × (after ≡ record before { stopped = Some e })
 
 -- a pop begins, unless used_event or avail_event of the queue isn't mapped
 abbrev pub BeginsWhere : (fault : Option QueueError) → (old new : ChainHandle) → (before after : QueueState) →
     walked.PopOutcome → Type 0
-BeginsWhere (Some e) old new before after reported =
-    LacksEvents e (event_miss (places_in old.regions) before) old new before after reported
-BeginsWhere None old new before after reported =
-    BeginsOn (course_of before old.limit) (pop_id_of old.regions before) old new before after reported
+BeginsWhere (Some e) old new before after result =
+    LacksEvents e (event_miss (places_in old.regions) before) old new before after result
+BeginsWhere None old new before after result =
+    BeginsOn (course_of before old.limit) (pop_id_of old.regions before) old new before after result
 
 -- a stopped queue refuses every pop
 abbrev pub BeginsUnless : (stopped : Option QueueError) → (old new : ChainHandle) →
     (before after : QueueState) → walked.PopOutcome → Type 0
-BeginsUnless (Some why) old new before after reported =
-    (reported ≡ reports.Refused Stopped) × IsAllButPart old new × (after ≡ before)
-BeginsUnless None old new before after reported =
-    BeginsWhere (event_fault (places_in old.regions) before) old new before after reported
+BeginsUnless (Some why) old new before after result =
+    (result ≡ reports.Refused Stopped) × IsAllButPart old new × (after ≡ before)
+BeginsUnless None old new before after result =
+    BeginsWhere (event_fault (places_in old.regions) before) old new before after result
 
 abbrev pub BeginsPop : (old new : ChainHandle) → (before after : QueueState) → walked.PopOutcome → Type 0
-BeginsPop old new before after reported = BeginsUnless before.stopped old new before after reported
+BeginsPop old new before after result = BeginsUnless before.stopped old new before after result
 
 -- a pop continues, unless its queue was stopped meanwhile: then it is refused like every pop of a
 -- stopped queue, and the handle is free
 abbrev pub ContinuesUnless : (stopped : Option QueueError) → Course → PopId → QueueWalk → (bytes : List ℕ) →
     (old new : ChainHandle) → (before after : QueueState) → walked.PopOutcome → Type 0
-ContinuesUnless (Some why) course pop_id walk bytes old new before after reported =
-    (reported ≡ reports.Refused Stopped) × IsAllButPart (record old { state = at.Free }) new
+ContinuesUnless (Some why) course pop_id walk bytes old new before after result =
+    (result ≡ reports.Refused Stopped) × IsAllButPart (record old { state = at.Free }) new
     × (after ≡ before)
-ContinuesUnless None course pop_id walk bytes old new before after reported =
-    Continues course pop_id walk bytes old new before after reported
+ContinuesUnless None course pop_id walk bytes old new before after result =
+    ContinuesWalk course pop_id walk bytes old new before after result
 
 -- a pop continues from the chain's state: with the bytes of its load, or with none at its beginning
 abbrev pub WalksFrom : state.ChainState → (bytes : List ℕ) → (old new : ChainHandle) →
     (before after : QueueState) → walked.PopOutcome → Type 0
-WalksFrom at.Free bytes old new before after reported = BeginsPop old new before after reported
-WalksFrom (at.Walking course pop_id walk) bytes old new before after reported =
-    ContinuesUnless before.stopped course pop_id walk bytes old new before after reported
-WalksFrom _ bytes old new before after reported = ⊥
+WalksFrom at.Free bytes old new before after result = BeginsPop old new before after result
+WalksFrom (at.Popping course pop_id walk) bytes old new before after result =
+    ContinuesUnless before.stopped course pop_id walk bytes old new before after result
+WalksFrom _ bytes old new before after result = ⊥
 
 abbrev pub WalksOn :
     (bytes : List ℕ) → (old new : ChainHandle) → (before after : QueueState) → walked.PopOutcome → Type 0
-WalksOn bytes old new before after reported = WalksFrom old.state bytes old new before after reported
+WalksOn bytes old new before after result = WalksFrom old.state bytes old new before after result
 
 -- the pop asks for table entries, their descriptors don't fit beside those that joined, and the allocator
 -- refused more room. A pop runs out of memory only then

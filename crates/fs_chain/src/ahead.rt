@@ -8,7 +8,7 @@ ghost use Rattle.fs_chain.specs.AheadSteps.{PopsAheadBy};
 ghost use Rattle.fs_chain.specs.Events.{event_fault};
 ghost use Rattle.fs_chain.specs.Queues.{may_take};
 ghost use Rattle.fs_chain.specs.Walks.{IsAllBut, StaysForLoad, left_of, queue_after, state_after};
-ghost use Rattle.fs_chain.specs.Walks.{reported_of};
+ghost use Rattle.fs_chain.specs.Walks.{outcome_of};
 ghost use Rattle.fs_chain.specs.declared.state.ChainState.TheVariants as at;
 ghost use Rattle.fs_chain.specs.declared.loads.LoadOutcome.TheVariants as proceeds;
 
@@ -33,7 +33,7 @@ impl ChainHandle {
         pop_id: PopId,
         step: CourseStep,
     ) -> PopOutcome
-        ensures reported { result ≡ reported_of self.new.descriptors.items step }
+        ensures returned { result ≡ outcome_of self.new.descriptors.items step }
         ensures state { self.new.state ≡ state_after course pop_id self.new.descriptors.items step }
         ensures left { self.new.descriptors.items ≡ left_of step self.old.descriptors.items }
         ensures stays { StaysForLoad step self.old.descriptors self.new.descriptors }
@@ -143,8 +143,8 @@ impl ChainHandle {
         ensures error { IfErr result (λ e. ahead_error self.old.state queue.old ≡ Some e) }
         ensures ok { OnOk result (ahead_error self.old.state queue.old ≡ None) }
         ensures same { OnErr result ((self.new ≡ self.old) × (queue.new ≡ queue.old)) }
-        ensures pops { IfOk result (λ reported. PopsAhead (loads_ahead ahead.now bytes.now) self.old self.new
-            queue.old queue.new (proceeds.On reported)) }
+        ensures pops { IfOk result (λ returned. PopsAhead (loads_ahead ahead.now bytes.now) self.old self.new
+            queue.old queue.new (proceeds.On returned)) }
         ensures step { IfOk result (PopsAheadBy (loads_ahead ahead.now bytes.now) self.old self.new queue.old
             queue.new) }
     {

@@ -2,10 +2,10 @@
 
 ghost use Rattle.std.specs.Prelude.{◌≡◌, IfOk, IfErr, OnOk, OnErr};
 ghost use Rattle.server_meanings.specs.Serving.{setting};
-ghost use Rattle.fs_chain.specs.Answers.{AnswerFails, CanBeGiven, IfWaits, IsGiven, IsNotTaken};
+ghost use Rattle.fs_chain.specs.Answers.{AnswerFails, CanBeGiven, IfDecoded, IsGiven, IsNotTaken};
 ghost use Rattle.fs_chain.specs.Answers.{RefusesAnswer, IsWaiting, data_len, refusal_error, fits, replied_of};
 ghost use Rattle.fs_chain.specs.Answers.{reply_of};
-ghost use Rattle.fs_chain.specs.Holds.{Answers};
+ghost use Rattle.fs_chain.specs.Holds.{AnswersInRun};
 ghost use Rattle.fs_chain.specs.Walks.{IsAllBut};
 ghost use Rattle.fs_chain.specs.declared.state.ChainState.TheVariants as at;
 
@@ -63,12 +63,12 @@ fn reply_of(sent: Sent, behind: usize) -> (ChainReply, bool)
 
 impl ChainHandle {
     fn keep_answered(&mut self, out: InFlight, answered: Answered, behind: usize) -> Replied
-        ensures reported { result ≡ replied_of answered }
-        ensures preserved { self.new
-            ≡ record self.old { state = at.HasReply out (reply_of answered.sent behind) } }
+        ensures returned { result ≡ replied_of answered }
+        ensures kept { self.new
+            ≡ record self.old { state = at.Replied out (reply_of answered.sent behind) } }
     {
         let (reply, has_room) = reply_of(answered.sent, behind);
-        self.state = ChainState::HasReply(out, reply);
+        self.state = ChainState::Replied(out, reply);
         Replied {
             has_room,
             forget: answered.forget,
@@ -83,11 +83,11 @@ impl ChainHandle {
         answer: FileAnswer,
     ) -> Result<Replied, ChainError>
         ensures given { IfOk result
-            (λ reported. IsGiven (setting self.old.session.page_size self.old.session.options.0 waiting.room)
-            waiting answer out self.new.session.options.0 reported self.new.state) }
+            (λ returned. IsGiven (setting self.old.session.page_size self.old.session.options.0 waiting.room)
+            waiting answer out self.new.session.options.0 returned self.new.state) }
         ensures taken { OnOk result (CanBeGiven waiting answer) }
         ensures refused { IfErr result (λ e. RefusesAnswer waiting answer e) }
-        ensures same { OnErr result (self.new ≡ record self.old { state = at.Waits out waiting }) }
+        ensures same { OnErr result (self.new ≡ record self.old { state = at.Decoded out waiting }) }
         ensures page_size { self.new.session.page_size ≡ self.old.session.page_size }
         ensures stays { IsAllBut self.old self.new
             × (self.new.descriptors ≡ self.old.descriptors)
@@ -98,7 +98,7 @@ impl ChainHandle {
             Ok(answered) => Ok(self.keep_answered(out, answered, behind)),
             Err(refusal) => {
                 let why = refusal.why;
-                self.state = ChainState::Waits(out, refusal.waiting);
+                self.state = ChainState::Decoded(out, refusal.waiting);
                 Err(refusal_error(why))
             }
         }
@@ -106,11 +106,11 @@ impl ChainHandle {
 
     // Answers the call in flight, if there is one. A listing isn't answered this way.
     fn answer_asked(&mut self, answer: FileAnswer) -> Result<Replied, ChainError>
-        ensures given { IfOk result (λ reported. IfWaits self.old.state (λ out w.
+        ensures given { IfOk result (λ returned. IfDecoded self.old.state (λ out w.
             IsGiven (setting self.old.session.page_size self.old.session.options.0 w.room) w answer out
-            self.new.session.options.0 reported self.new.state)) }
+            self.new.session.options.0 returned self.new.state)) }
         ensures taken { OnOk result (IsWaiting self.old.state
-            × IfWaits self.old.state (λ out w. CanBeGiven w answer)) }
+            × IfDecoded self.old.state (λ out w. CanBeGiven w answer)) }
         ensures refused { IfErr result (λ e. AnswerFails self.old.state answer e) }
         ensures same { OnErr result (self.new ≡ self.old) }
         ensures page_size { self.new.session.page_size ≡ self.old.session.page_size }
@@ -119,9 +119,9 @@ impl ChainHandle {
             × (self.new.part ≡ self.old.part) }
     {
         match mem::replace(&mut self.state, ChainState::Free) {
-            ChainState::Waits(out, waiting) => self.answer_waiting(out, waiting, answer),
-            ChainState::Lists(out, listing) => {
-                self.state = ChainState::Lists(out, listing);
+            ChainState::Decoded(out, waiting) => self.answer_waiting(out, waiting, answer),
+            ChainState::Listing(out, listing) => {
+                self.state = ChainState::Listing(out, listing);
                 Err(ChainError::OtherKind)
             }
             other => {
@@ -132,29 +132,29 @@ impl ChainHandle {
     }
 
     /// Answers a chain's file call, in the session in which it was decoded, with the chain's number
-    /// (`serial`). After an error nothing changed:
+    /// (`ticket`). After an error nothing changed:
     /// - `WrongOrder`: no call is in flight.
     /// - `OtherCall`: another call is.
     /// - `OtherKind`: the call needs an answer of another kind. A listing is answered entry by entry, or
     ///   by `fail`.
     /// - `LongReply`: the data is too long for the reply.
     #[tactic(auto, using(crate::proofs::HoldsAnswered::answers_from))]
-    pub fn answer(&mut self, serial: u32, answer: FileAnswer) -> Result<Replied, ChainError>
-        ensures given { IfOk result (λ reported. IfWaits self.old.state (λ out w.
+    pub fn answer(&mut self, ticket: u32, answer: FileAnswer) -> Result<Replied, ChainError>
+        ensures given { IfOk result (λ returned. IfDecoded self.old.state (λ out w.
             IsGiven (setting self.old.session.page_size self.old.session.options.0 w.room) w answer out
-            self.new.session.options.0 reported self.new.state)) }
-        ensures mine { OnOk result (self.old.serial ≡ serial) }
+            self.new.session.options.0 returned self.new.state)) }
+        ensures mine { OnOk result (self.old.ticket ≡ ticket) }
         ensures taken { OnOk result (IsWaiting self.old.state
-            × IfWaits self.old.state (λ out w. CanBeGiven w answer)) }
-        ensures refused { IfErr result (λ e. IsNotTaken self.old serial answer e) }
+            × IfDecoded self.old.state (λ out w. CanBeGiven w answer)) }
+        ensures refused { IfErr result (λ e. IsNotTaken self.old ticket answer e) }
         ensures same { OnErr result (self.new ≡ self.old) }
         ensures page_size { self.new.session.page_size ≡ self.old.session.page_size }
         ensures stays { IsAllBut self.old self.new
             × (self.new.descriptors ≡ self.old.descriptors)
             × (self.new.part ≡ self.old.part) }
-        ensures step { IfOk result (λ reported. Answers self.old self.new answer reported) }
+        ensures step { IfOk result (λ returned. AnswersInRun self.old self.new answer returned) }
     {
-        match self.serial_error(serial) {
+        match self.ticket_error(ticket) {
             Some(error) => Err(error),
             None => self.answer_asked(answer),
         }

@@ -4,7 +4,7 @@ ghost use Rattle.std.specs.Prelude.{◌≡◌, ◌≤◌, [], Some, None, IfErr,
 ghost use Rattle.fs_queue.specs.Taking.{all_reach, total_len, access_of, of_direction};
 ghost use Rattle.fs_regions.specs.Places.{places_in, untranslated};
 ghost use Rattle.fs_regions.specs.Windows.{HasNoWindowFrom, IsWindowFrom};
-ghost use Rattle.fs_chain.specs.HoldsAround.{SetsMemory};
+ghost use Rattle.fs_chain.specs.HoldsAround.{SetsMemoryInRun};
 ghost use Rattle.fs_chain.specs.Orders.{is_out, memory_error};
 ghost use Rattle.fs_chain.specs.Passing.{HasPassed};
 ghost use Rattle.fs_chain.specs.declared.state.ChainState.TheVariants as at;
@@ -32,8 +32,8 @@ pub struct ChainHandle {
     pub(crate) state: ChainState,
     pub(crate) part: Vec<u8>,
     pub(crate) session: Session,
-    /// The number of its chain.
-    pub(crate) serial: u32,
+    /// The number of its chain: an answer has to have it.
+    pub(crate) ticket: u32,
     /// The length of the list that has the entries of a listing; 0 if it has none.
     pub(crate) list_len: usize,
 }
@@ -47,7 +47,7 @@ impl ChainHandle {
         ensures state { result.state ≡ at.Free }
         ensures part { result.part.items ≡ [] }
         ensures session { (result.session.page_size ≡ 4096) × (result.session.options.0 ≡ 0) }
-        ensures serial { result.serial ≡ 1 }
+        ensures ticket { result.ticket ≡ 1 }
         ensures list { result.list_len ≡ 0 }
     {
         ChainHandle {
@@ -58,7 +58,7 @@ impl ChainHandle {
             state: ChainState::Free,
             part: Vec::new(alloc),
             session: Session::new(PAGE_SIZE as u32),
-            serial: 1,
+            ticket: 1,
             list_len: 0,
         }
     }
@@ -75,9 +75,9 @@ impl ChainHandle {
             × (self.new.state ≡ self.old.state)
             × (self.new.part ≡ self.old.part)
             × (self.new.session ≡ self.old.session)
-            × (self.new.serial ≡ self.old.serial)
+            × (self.new.ticket ≡ self.old.ticket)
             × (self.new.list_len ≡ self.old.list_len)) }
-        ensures step { OnOk result (SetsMemory self.new regions limit) }
+        ensures step { OnOk result (SetsMemoryInRun self.new regions limit) }
     {
         match self.state {
             ChainState::Free => self.take_memory(regions, limit),
@@ -95,7 +95,7 @@ impl ChainHandle {
             × (self.new.state ≡ self.old.state)
             × (self.new.part ≡ self.old.part)
             × (self.new.session ≡ self.old.session)
-            × (self.new.serial ≡ self.old.serial)
+            × (self.new.ticket ≡ self.old.ticket)
             × (self.new.list_len ≡ self.old.list_len)) }
     {
         if limit < MAX_REQUEST_LEN || MOST_LIMIT < limit {
@@ -110,7 +110,7 @@ impl ChainHandle {
     pub fn is_out(&self) -> bool
         ensures { result ≡ is_out self.now.state }
     {
-        !matches!(self.state, ChainState::Free | ChainState::Walking(_, _, _))
+        !matches!(self.state, ChainState::Free | ChainState::Popping(_, _, _))
     }
 
     /// The longest window of one direction of a chain, from byte `from` on. The cursor passes the

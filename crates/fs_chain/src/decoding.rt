@@ -13,9 +13,9 @@ ghost use Rattle.server_meanings.specs.Grammar.{Meaning, meaning};
 ghost use Rattle.server_meanings.specs.Serving.{Setting, setting};
 ghost use Rattle.server_phases.specs.Asking.{AsksCall, HasAskerByFront, IsAskedBy, IsRequestFront, IsDecoded};
 ghost use Rattle.server_phases.specs.Asking.{DecodedStandsIn, FrontStandsIn, IsDecodedByFront, is_decoded};
-ghost use Rattle.fs_chain.specs.Decoding.{IfUndecoded, IsPreservedFor, KeepsCall, ReportsMeaning, wanted};
+ghost use Rattle.fs_chain.specs.Decoding.{IfUndecoded, IsKeptFor, KeepsCall, ReportsMeaning, wanted};
 ghost use Rattle.fs_chain.specs.Decoding.{ReportStandsIn, wanted_after, wanted_by};
-ghost use Rattle.fs_chain.specs.Holds.{Decodes};
+ghost use Rattle.fs_chain.specs.Holds.{DecodesInRun};
 ghost use Rattle.fs_chain.specs.Orders.{ask_error};
 ghost use Rattle.fs_chain.specs.Walks.{IsAllBut, IsAllButPlace};
 ghost use Rattle.fs_chain.specs.declared.state.ChainState.TheVariants as at;
@@ -46,19 +46,19 @@ fn waiting_state(out: InFlight, waiting: Waiting) -> ChainState
     ensures keeps { (s : Setting) (m : Meaning) (bytes : List ℕ) (made : value.FileCall)
         → AsksCall s m bytes made waiting
         → KeepsCall s m bytes made out result }
-    ensures asker { IsPreservedFor waiting.context result }
+    ensures asker { IsKeptFor waiting.context result }
 {
     match Listing::begin(waiting) {
-        Ok(listing) => ChainState::Lists(out, listing),
-        Err(refusal) => ChainState::Waits(out, refusal.waiting),
+        Ok(listing) => ChainState::Listing(out, listing),
+        Err(refusal) => ChainState::Decoded(out, refusal.waiting),
     }
 }
 
 // The state of a chain that is to be pushed with this reply, or without one.
 fn answered_state(out: InFlight, front: Option<Front>) -> ChainState
-    ensures { result ≡ at.HasReply out (record { front = front; behind = 0 }) }
+    ensures { result ≡ at.Replied out (record { front = front; behind = 0 }) }
 {
-    ChainState::HasReply(out, ChainReply { front, behind: 0 })
+    ChainState::Replied(out, ChainReply { front, behind: 0 })
 }
 
 // How many bytes of a request the library needs if `len` bytes don't suffice.
@@ -78,11 +78,11 @@ impl ChainHandle {
         ensures reports { (s : Setting) (m : Meaning) (bytes : List ℕ)
             → IsDecoded s m bytes asked.entry
             → ReportsMeaning s m bytes out result self.new.state }
-        ensures asker { (who : Context) → IsAskedBy who asked.entry → IsPreservedFor who self.new.state }
+        ensures asker { (who : Context) → IsAskedBy who asked.entry → IsKeptFor who self.new.state }
         ensures places { (options : ℕ) (request : List ℕ)
             → DecodedStandsIn request (first_name_at options request) asked.entry
             → ReportStandsIn options request result }
-        ensures reported { wanted_by result ≡ None }
+        ensures returned { wanted_by result ≡ None }
         ensures same { IsAllButPlace self.old self.new }
         ensures list { self.new.list_len ≡ self.old.list_len }
     {
@@ -115,7 +115,7 @@ impl ChainHandle {
             → HasAskerByFront request asked.entry
             → (h : InHeader) (more : List ℕ)
             → record_parser in_header request ≡ Ok (h, more)
-            → IsPreservedFor (context_of h) self.new.state }
+            → IsKeptFor (context_of h) self.new.state }
         ensures places { (options : ℕ) (request : List ℕ) → FrontStandsIn options request asked.entry
             → ReportStandsIn options request result }
         ensures wanted { wanted_by result ≡ (if is_decoded asked.entry then None
@@ -126,7 +126,7 @@ impl ChainHandle {
         match asked {
             AskedFront::Decoded(asked) => self.keep_asked(out, asked),
             AskedFront::More => {
-                self.state = ChainState::Taken(out);
+                self.state = ChainState::Popped(out);
                 Decoded::More(wanted(len, out.request_len))
             }
         }
@@ -139,28 +139,28 @@ impl ChainHandle {
         out: InFlight,
         request: &'a [u8],
     ) -> Result<Decoded<'a>, ChainError>
-        requires { self.old.state ≡ at.Taken out }
-        ensures error { IfErr result (λ e. ask_error (at.Taken out) (length request.now) ≡ Some e) }
-        ensures ok { OnOk result (ask_error (at.Taken out) (length request.now) ≡ None) }
-        ensures reports { IfOk result (λ reported. (whole : List ℕ)
+        requires { self.old.state ≡ at.Popped out }
+        ensures error { IfErr result (λ e. ask_error (at.Popped out) (length request.now) ≡ Some e) }
+        ensures ok { OnOk result (ask_error (at.Popped out) (length request.now) ≡ None) }
+        ensures reports { IfOk result (λ returned. (whole : List ℕ)
             → out.request_len ≡ length whole
             → IsRequestFront request.now whole
             → ReportsMeaning (setting session.page_size session.options.0 out.room_len)
-            (meaning session.options.0 whole out.room_len) (drop 80 whole) out reported self.new.state) }
+            (meaning session.options.0 whole out.room_len) (drop 80 whole) out returned self.new.state) }
         ensures asker { OnOk result ((whole : List ℕ)
             → out.request_len ≡ length whole
             → IsRequestFront request.now whole
             → (h : InHeader) (more : List ℕ)
             → record_parser in_header whole ≡ Ok (h, more)
-            → IsPreservedFor (context_of h) self.new.state) }
+            → IsKeptFor (context_of h) self.new.state) }
         ensures places { IfOk result (ReportStandsIn session.options.0 request.now) }
-        ensures wanted { IfOk result (λ reported. wanted_by reported ≡ wanted_after request.now
+        ensures wanted { IfOk result (λ returned. wanted_by returned ≡ wanted_after request.now
             out.request_len) }
         ensures same { IsAllBut self.old self.new
             × (self.new.descriptors ≡ self.old.descriptors)
             × (self.new.part ≡ self.old.part) }
         ensures session { OnOk result (self.new.session ≡ session) }
-        ensures stays { OnErr result ((self.new.state ≡ at.Taken out)
+        ensures stays { OnErr result ((self.new.state ≡ at.Popped out)
             × (self.new.session ≡ self.old.session)) }
     {
         let len = out.request_len;
@@ -185,30 +185,30 @@ impl ChainHandle {
     ) -> Result<Decoded<'a>, ChainError>
         ensures error { IfErr result (λ e. ask_error self.old.state (length request.now) ≡ Some e) }
         ensures ok { OnOk result (ask_error self.old.state (length request.now) ≡ None) }
-        ensures reports { IfOk result (λ reported. IfUndecoded self.old.state (λ out. (whole : List ℕ)
+        ensures reports { IfOk result (λ returned. IfUndecoded self.old.state (λ out. (whole : List ℕ)
             → out.request_len ≡ length whole
             → IsRequestFront request.now whole
             → ReportsMeaning (setting session.page_size session.options.0 out.room_len)
-            (meaning session.options.0 whole out.room_len) (drop 80 whole) out reported self.new.state)) }
+            (meaning session.options.0 whole out.room_len) (drop 80 whole) out returned self.new.state)) }
         ensures asker { OnOk result (IfUndecoded self.old.state (λ out. (whole : List ℕ)
             → out.request_len ≡ length whole
             → IsRequestFront request.now whole
             → (h : InHeader) (more : List ℕ)
             → record_parser in_header whole ≡ Ok (h, more)
-            → IsPreservedFor (context_of h) self.new.state)) }
+            → IsKeptFor (context_of h) self.new.state)) }
         ensures places { IfOk result (ReportStandsIn session.options.0 request.now) }
-        ensures wanted { IfOk result (λ reported. IfUndecoded self.old.state
-            (λ out. wanted_by reported ≡ wanted_after request.now out.request_len)) }
+        ensures wanted { IfOk result (λ returned. IfUndecoded self.old.state
+            (λ out. wanted_by returned ≡ wanted_after request.now out.request_len)) }
         ensures same { IsAllBut self.old self.new
             × (self.new.descriptors ≡ self.old.descriptors)
             × (self.new.part ≡ self.old.part) }
         ensures session { OnOk result (self.new.session ≡ session) }
         ensures stays { OnErr result ((self.new.state ≡ self.old.state)
             × (self.new.session ≡ self.old.session)) }
-        ensures step { IfOk result (λ reported. Decodes self.old self.new session request.now reported) }
+        ensures step { IfOk result (λ returned. DecodesInRun self.old self.new session request.now returned) }
     {
         match &self.state {
-            ChainState::Taken(out) => {
+            ChainState::Popped(out) => {
                 let out = *out;
                 self.ask_out(session, out, request)
             }

@@ -1,7 +1,7 @@
 //! Calls of a handle one behind another: their theorems compose, without a law.
 
 ghost use Rattle.std.specs.Prelude.{IfOk};
-ghost use Rattle.fs_chain.specs.Holds.{EndsPush};
+ghost use Rattle.fs_chain.specs.Holds.{EndsPushInRun};
 
 use crate::chain_handle::ChainHandle;
 use crate::error::ChainError;
@@ -15,7 +15,7 @@ pub fn push_whole(
     front: &mut [u8],
     seen: [u8; 2],
 ) -> Result<bool, ChainError>
-    ensures step { IfOk result (λ notice. EndsPush handle.old queue.old queue.new seen notice) }
+    ensures step { IfOk result (λ notice. EndsPushInRun handle.old queue.old queue.new seen notice) }
 {
     let _stores = handle.push(queue, front)?;
     handle.pushed(queue, seen)

@@ -1,12 +1,12 @@
 //! How a chain is given up before its request is decoded.
 
 ghost use Rattle.std.specs.Prelude.{◌≡◌, Some, None, IfErr, OnOk, OnErr, if◌then◌else◌};
-ghost use Rattle.fs_chain.specs.Holds.{GivesUp};
-ghost use Rattle.fs_chain.specs.HoldsAround.{AbandonsChain};
+ghost use Rattle.fs_chain.specs.Holds.{GivesUpInRun};
+ghost use Rattle.fs_chain.specs.HoldsAround.{AbandonsInRun};
 ghost use Rattle.fs_chain.specs.Orders.{give_up_error, is_out};
 ghost use Rattle.fs_chain.specs.Queues.{gave_up};
 ghost use Rattle.fs_chain.specs.Pushes.{IsFreed};
-ghost use Rattle.fs_chain.specs.Serials.{freed};
+ghost use Rattle.fs_chain.specs.Tickets.{freed};
 ghost use Rattle.fs_chain.specs.declared.state.ChainState.TheVariants as at;
 
 use crate::chain_handle::ChainHandle;
@@ -17,20 +17,20 @@ use crate::state::{ChainState, InFlight};
 impl ChainHandle {
     // Gives up a chain in flight whose request wasn't decoded. It stays in flight if the queue is another
     // one, or if other chains were popped after it.
-    fn untake_chain(&mut self, queue: &mut QueueState, out: InFlight) -> Result<(), ChainError>
-        requires { self.old.state ≡ at.Taken out }
-        ensures error { IfErr result (λ e. give_up_error (at.Taken out) queue.old ≡ Some e) }
-        ensures ok { OnOk result (give_up_error (at.Taken out) queue.old ≡ None) }
+    fn unpop_chain(&mut self, queue: &mut QueueState, out: InFlight) -> Result<(), ChainError>
+        requires { self.old.state ≡ at.Popped out }
+        ensures error { IfErr result (λ e. give_up_error (at.Popped out) queue.old ≡ Some e) }
+        ensures ok { OnOk result (give_up_error (at.Popped out) queue.old ≡ None) }
         ensures same { OnErr result ((self.new ≡ self.old) × (queue.new ≡ queue.old)) }
         ensures free { OnOk result ((self.new ≡ freed self.old) × (queue.new ≡ gave_up queue.old)) }
     {
         if !queue.has_out(&out) {
             return Err(ChainError::OtherQueue);
         }
-        if !queue.took_last(&out) {
+        if !queue.popped_last(&out) {
             return Err(ChainError::WrongOrder);
         }
-        queue.untake();
+        queue.unpop();
         self.free();
         Ok(())
     }
@@ -48,16 +48,16 @@ impl ChainHandle {
         ensures free { OnOk result (self.new ≡ freed self.old) }
         ensures queue { OnOk result (queue.new ≡ (if is_out self.old.state then gave_up queue.old
             else queue.old)) }
-        ensures step { OnOk result (GivesUp self.old self.new queue.old queue.new) }
+        ensures step { OnOk result (GivesUpInRun self.old self.new queue.old queue.new) }
     {
         match &self.state {
-            ChainState::Free | ChainState::Walking(_, _, _) => {
+            ChainState::Free | ChainState::Popping(_, _, _) => {
                 self.free();
                 Ok(())
             }
-            ChainState::Taken(out) => {
+            ChainState::Popped(out) => {
                 let out = *out;
-                self.untake_chain(queue, out)
+                self.unpop_chain(queue, out)
             }
             _ => Err(ChainError::WrongOrder),
         }
@@ -68,7 +68,7 @@ impl ChainHandle {
     #[tactic(auto, using(crate::proofs::HoldsAround::abandons))]
     pub fn abandon(&mut self)
         ensures free { IsFreed self.old self.new }
-        ensures step { AbandonsChain self.old self.new }
+        ensures step { AbandonsInRun self.old self.new }
     {
         self.free();
         self.part.clear();

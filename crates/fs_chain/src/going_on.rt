@@ -8,8 +8,8 @@ ghost use Rattle.vm_memory.specs.Memory.{location};
 ghost use Rattle.vm_memory.specs.Slices.{IsWindowAt};
 ghost use Rattle.fs_regions.specs.Places.{left_in, places_in};
 ghost use Rattle.fs_regions.specs.Walks.{asked_by, asked_len};
-ghost use Rattle.fs_chain.specs.Orders.{begin_error, give_error, walk_error, entries_asked, IfWalking};
-ghost use Rattle.fs_chain.specs.Orders.{IsWalking};
+ghost use Rattle.fs_chain.specs.Orders.{begin_error, give_error, walk_error, entries_asked, IfPopping};
+ghost use Rattle.fs_chain.specs.Orders.{IsPopping};
 ghost use Rattle.fs_chain.specs.Walks.{LacksRoom, WalksOn, IsAllBut};
 
 use crate::chain_handle::ChainHandle;
@@ -94,15 +94,15 @@ impl ChainHandle {
     // Gives a walk the bytes of its load, in place.
     #[inline(always)]
     fn give(&mut self, queue: &mut QueueState, loaded: &[u8]) -> PopOutcome
-        requires walking { IsWalking self.old.state }
-        requires bytes { IfWalking self.old.state (λ walk. length loaded.now ≡ asked_len walk) }
+        requires walking { IsPopping self.old.state }
+        requires bytes { IfPopping self.old.state (λ walk. length loaded.now ≡ asked_len walk) }
         requires room { HasRoomFor self.old.descriptors (entries_asked self.old.state) }
         requires proceeds { queue.old.stopped ≡ None }
         ensures walks { WalksOn loaded.now self.old self.new queue.old queue.new result }
         ensures apart { (self.new.part ≡ self.old.part) × (self.new.session ≡ self.old.session) }
     {
         match &mut self.state {
-            ChainState::Walking(course, pop_id, walk) => {
+            ChainState::Popping(course, pop_id, walk) => {
                 let taken = take(walk, course);
                 match course.give(&self.regions, taken, loaded, &mut self.descriptors) {
                     CourseStep::Load(next) => {
@@ -123,7 +123,7 @@ impl ChainHandle {
     // Makes room for the descriptors that may join with the next bytes.
     #[inline(always)]
     fn make_room(&mut self) -> Result<(), ChainError>
-        requires { IsWalking self.old.state }
+        requires { IsPopping self.old.state }
         ensures room { OnOk result (HasRoomFor self.new.descriptors (entries_asked self.new.state)) }
         ensures memory { IfErr result (λ e. (e ≡ ChainError.OutOfMemory) × LacksRoom self.old) }
         ensures same { IsAllBut self.old self.new
@@ -131,7 +131,7 @@ impl ChainHandle {
             × (self.new.descriptors.items ≡ self.old.descriptors.items) }
         ensures apart { (self.new.part ≡ self.old.part) × (self.new.session ≡ self.old.session) }
     {
-        let ChainState::Walking(_, _, walk) = &self.state else {
+        let ChainState::Popping(_, _, walk) = &self.state else {
             unreachable!()
         };
         let entries = walk.entries();
@@ -148,7 +148,7 @@ impl ChainHandle {
     // stopped meanwhile refuses it.
     #[inline(always)]
     fn go_on(&mut self, queue: &mut QueueState, loaded: &[u8]) -> Result<PopOutcome, ChainError>
-        requires { IsWalking self.old.state }
+        requires { IsPopping self.old.state }
         ensures error { IfErr result (λ e. (walk_error self.old.state queue.old (length loaded.now) ≡ Some e)
             ⊎ ((e ≡ ChainError.OutOfMemory)
             × (walk_error self.old.state queue.old (length loaded.now) ≡ None))) }
@@ -163,7 +163,7 @@ impl ChainHandle {
         ensures apart { (self.new.part ≡ self.old.part) × (self.new.session ≡ self.old.session) }
     {
         match &self.state {
-            ChainState::Walking(course, pop_id, walk) => {
+            ChainState::Popping(course, pop_id, walk) => {
                 if let Some(error) = give_refusal(queue, course, *pop_id, walk, loaded.len()) {
                     return Err(error);
                 }
@@ -203,19 +203,19 @@ impl ChainHandle {
     {
         match self.state {
             ChainState::Free => self.begin_walk(queue, loaded),
-            ChainState::Walking(_, _, _) => self.go_on(queue, loaded),
+            ChainState::Popping(_, _, _) => self.go_on(queue, loaded),
             _ => Err(ChainError::WrongOrder),
         }
     }
 
     /// Why a pop can't begin, or continue with a whole load of `len` bytes, on the queue as it is. If
     /// this returns None, the pop can only run out of memory.
-    pub fn walk_refusal(&self, queue: &QueueState, len: usize) -> Option<ChainError>
+    pub fn pop_refusal(&self, queue: &QueueState, len: usize) -> Option<ChainError>
         ensures { result ≡ walk_error self.now.state queue.now len }
     {
         match &self.state {
             ChainState::Free => begin_refusal(queue, len),
-            ChainState::Walking(course, pop_id, walk) => {
+            ChainState::Popping(course, pop_id, walk) => {
                 give_refusal(queue, course, *pop_id, walk, len)
             }
             _ => Some(ChainError::WrongOrder),
@@ -226,19 +226,19 @@ impl ChainHandle {
     /// most. None past their end, or if the pop asks for nothing.
     #[inline(always)]
     pub fn load_window(&self, from: usize) -> Option<VolatileSlice>
-        ensures some { IfSome result (λ w. IfWalking self.now.state (λ walk. (from < asked_len walk)
+        ensures some { IfSome result (λ w. IfPopping self.now.state (λ walk. (from < asked_len walk)
             × IsWindowAt (location (places_in self.now.regions) Read) (asked_by walk + from)
             (asked_len walk - from) w
             × (w.len ≡ min (asked_len walk - from)
             (left_in (places_in self.now.regions) (asked_by walk + from))))) }
         ensures none { result ≡ None
-            → IfWalking self.now.state (λ walk. from < asked_len walk
+            → IfPopping self.now.state (λ walk. from < asked_len walk
             → location (places_in self.now.regions) Read (asked_by walk + from) ≡ None) }
-        ensures walking { OnSome result (IsWalking self.now.state) }
+        ensures walking { OnSome result (IsPopping self.now.state) }
         ensures few { IfSome result (λ w. w.len ≤ 4096) }
     {
         match &self.state {
-            ChainState::Walking(_, _, walk) => window_of(&self.regions, walk, from),
+            ChainState::Popping(_, _, walk) => window_of(&self.regions, walk, from),
             _ => None,
         }
     }

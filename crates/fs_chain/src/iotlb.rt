@@ -5,7 +5,7 @@ ghost use Rattle.fs_regions.specs.Places.{places_in};
 ghost use Rattle.fs_regions.specs.Using.{IsUntouched};
 ghost use Rattle.fs_chain.specs.HoldsAround.{RemapsTable};
 ghost use Rattle.fs_chain.specs.Orders.{is_out};
-ghost use Rattle.fs_chain.specs.Tables.{ExchangesTable, ExchangesWith, is_walking, miss_at};
+ghost use Rattle.fs_chain.specs.Tables.{ExchangesTable, ExchangesWith, is_popping, miss_at};
 
 use crate::chain_handle::ChainHandle;
 use crate::error::ChainError;
@@ -17,10 +17,10 @@ use vm_memory_core::{Iotlb, IovaRange, Permissions};
 
 impl ChainHandle {
     // Whether a pop is under way.
-    fn is_walking(&self) -> bool
-        ensures { result ≡ is_walking self.now.state }
+    fn is_popping(&self) -> bool
+        ensures { result ≡ is_popping self.now.state }
     {
-        matches!(self.state, ChainState::Walking(_, _, _))
+        matches!(self.state, ChainState::Popping(_, _, _))
     }
 
     /// Exchanges the IOMMU's table for another one, or for none, and returns the one that was there. While a
@@ -33,7 +33,7 @@ impl ChainHandle {
         ensures exchanged { ExchangesTable self.old self.new table result }
         ensures step { OnOk result (RemapsTable self.old self.new table) }
     {
-        if self.is_walking() {
+        if self.is_popping() {
             return Err(table);
         }
         Ok(self.regions.exchange_table(self.alloc, table))
@@ -45,7 +45,7 @@ impl ChainHandle {
         ensures exchanged { ExchangesWith self.old self.new place.old place.new result }
         ensures step { OnOk result (RemapsTable self.old self.new place.old.table) }
     {
-        if self.is_walking() {
+        if self.is_popping() {
             return Err(ChainError::ChainInFlight);
         }
         let table = self.regions.exchange_table(self.alloc, place.table.take());

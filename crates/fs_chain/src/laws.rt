@@ -3,10 +3,10 @@
 ghost use Rattle.fs_chain.specs.Filling.{HandleFillsBuffer, HandleFillsRange};
 ghost use Rattle.fs_chain.specs.Held.{AskedIsMapped, HeldIsUnreplied, LoadsAreFew, LoadsCount};
 ghost use Rattle.fs_chain.specs.HoldsListings.{BeginsListing, GathersDecoded, LeavesOut, ListingIsHeld};
-ghost use Rattle.fs_chain.specs.HoldsListings.{LooksUp, ReadsDirectory};
+ghost use Rattle.fs_chain.specs.HoldsListings.{LooksUpEntries, ReadsDirectory};
 ghost use Rattle.fs_chain.specs.Laws.{WalksAreOffers};
 ghost use Rattle.fs_chain.specs.Moves.{HandleMovesDevice};
-ghost use Rattle.fs_chain.specs.Serials.{TicketsDiffer};
+ghost use Rattle.fs_chain.specs.Tickets.{TicketsDiffer};
 ghost use Rattle.fs_chain.specs.Together.{FindsOwn, JoinsOthers, KeepsOthers, LeavesOthers};
 
 use fs_regions::laws::law_offers;
@@ -40,7 +40,7 @@ pub fn law_held()
     ensures unreplied { HeldIsUnreplied }
 {}
 
-/// The number with which an answer names its chain (`ChainHandle::serial`). Of 2^32 successive chains of a
+/// The number with which an answer names its chain (`ChainHandle::ticket`). Of 2^32 successive chains of a
 /// handle no two have the same one, as long as the caller chooses none (`number_from`).
 pub fn law_tickets()
     ensures { TicketsDiffer }
@@ -54,7 +54,7 @@ pub fn law_listings()
     ensures decoded { GathersDecoded }
     ensures held { ListingIsHeld }
     ensures reads { ReadsDirectory }
-    ensures looks_up { LooksUp }
+    ensures looks_up { LooksUpEntries }
     ensures leaves_out { LeavesOut }
 {}
 

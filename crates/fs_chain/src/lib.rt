@@ -22,8 +22,8 @@ mod popping;
 mod pushing;
 mod queue;
 mod ring_place;
-mod serial;
 mod state;
+mod ticket;
 mod window_cursor;
 
 pub use answering::Replied;
@@ -32,7 +32,7 @@ pub use decoding::Decoded;
 pub use driven::push_whole;
 pub use error::ChainError;
 pub use iotlb_place::IotlbPlace;
-pub use listing::Added;
+pub use listing::AddOutcome;
 pub use loads::LoadOutcome;
 pub use notifications::NotificationStore;
 pub use popping::PopOutcome;

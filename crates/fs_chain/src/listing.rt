@@ -4,10 +4,10 @@ ghost use Rattle.std.specs.Prelude.{◌≡◌, IfOk, OnOk, OnErr, length};
 ghost use Rattle.fuse_fs.specs.Answers.{listed};
 ghost use Rattle.server_replies.specs.Entries.{no_node};
 ghost use Rattle.server_phases.specs.Gathering.{added_found, added_plain};
-ghost use Rattle.fs_chain.specs.HoldsListings.{AddsEntry, EndsListing, FailsListing};
+ghost use Rattle.fs_chain.specs.HoldsListings.{AddsEntryInRun, EndsListingInRun, FailsListingInRun};
 ghost use Rattle.fs_chain.specs.Listings.{AddsTo, EndsByEntries, EndsByError, adding_error, answered_by};
-ghost use Rattle.fs_chain.specs.Listings.{list_after, list_error, reported_added};
-ghost use Rattle.fs_chain.specs.Serials.{UnlessRefused, serial_error};
+ghost use Rattle.fs_chain.specs.Listings.{list_after, list_error, added_of};
+ghost use Rattle.fs_chain.specs.Tickets.{UnlessRefused, ticket_error};
 ghost use Rattle.fs_chain.specs.Walks.{IsAllButPlace};
 ghost use Rattle.fs_chain.specs.declared.state.ChainState.TheVariants as at;
 
@@ -21,7 +21,7 @@ use std::mem;
 
 /// The result of an entry.
 #[derive(Clone, Copy, Debug, PartialEq, Eq)]
-pub enum Added {
+pub enum AddOutcome {
     /// It is in the list.
     In,
     /// It doesn't fit in the size in the request: the entries so far are the answer (`end`).
@@ -33,35 +33,35 @@ pub enum Added {
 }
 
 // The result that is returned for an entry.
-fn reported_added(outcome: Result<(), NotAdded>) -> Result<Added, ChainError>
-    ensures { result ≡ reported_added outcome }
+fn added_of(outcome: Result<(), NotAdded>) -> Result<AddOutcome, ChainError>
+    ensures { result ≡ added_of outcome }
 {
     match outcome {
-        Ok(()) => Ok(Added::In),
+        Ok(()) => Ok(AddOutcome::In),
         Err(NotAdded::OtherKind) => Err(ChainError::OtherKind),
-        Err(NotAdded::Full) => Ok(Added::Full),
-        Err(NotAdded::NoRoom) => Ok(Added::NoRoom),
-        Err(NotAdded::TooLong) => Ok(Added::TooLong),
+        Err(NotAdded::Full) => Ok(AddOutcome::Full),
+        Err(NotAdded::NoRoom) => Ok(AddOutcome::NoRoom),
+        Err(NotAdded::TooLong) => Ok(AddOutcome::TooLong),
         Err(NotAdded::ShortList) => Err(ChainError::ShortBuffer),
     }
 }
 
 // The length of the list that has the listing's entries, after an entry was added to one of length `len`.
-fn list_after(before: usize, len: usize, reported: Result<Added, ChainError>) -> usize
-    ensures { result ≡ list_after before len reported }
+fn list_after(before: usize, len: usize, returned: Result<AddOutcome, ChainError>) -> usize
+    ensures { result ≡ list_after before len returned }
 {
-    match reported {
-        Ok(Added::In) => len,
+    match returned {
+        Ok(AddOutcome::In) => len,
         _ => before,
     }
 }
 
 impl ChainHandle {
     // Why an entry with this number can't be added to a list of this length.
-    fn adding_error(&self, serial: u32, len: usize) -> Option<ChainError>
-        ensures { result ≡ adding_error self.now serial len }
+    fn adding_error(&self, ticket: u32, len: usize) -> Option<ChainError>
+        ensures { result ≡ adding_error self.now ticket len }
     {
-        match self.serial_error(serial) {
+        match self.ticket_error(ticket) {
             Some(error) => Some(error),
             None => self.list_error(len),
         }
@@ -72,7 +72,7 @@ impl ChainHandle {
         ensures { result ≡ list_error self.now.state self.now.list_len len }
     {
         match &self.state {
-            ChainState::Lists(_, _) => {
+            ChainState::Listing(_, _) => {
                 if self.list_len != 0 && self.list_len != len {
                     return Some(ChainError::BadArgument);
                 }
@@ -89,8 +89,8 @@ impl ChainHandle {
         mut listing: Listing,
         list: &mut [u8],
         entry: &DirEntry<'_>,
-    ) -> Result<Added, ChainError>
-        ensures adds { AddsTo (at.Lists out listing) self.new.state list.old list.new
+    ) -> Result<AddOutcome, ChainError>
+        ensures adds { AddsTo (at.Listing out listing) self.new.state list.old list.new
             (listed entry.now, no_node (listed entry.now))
             (λ l. added_plain l (length list.old) (length entry.now.name.now)) result }
         ensures list { self.new.list_len ≡ list_after self.old.list_len (length list.old) result }
@@ -98,10 +98,10 @@ impl ChainHandle {
     {
         let len = list.len();
         let outcome = listing.add(list, entry);
-        self.state = ChainState::Lists(out, listing);
-        let reported = reported_added(outcome);
-        self.list_len = list_after(self.list_len, len, reported);
-        reported
+        self.state = ChainState::Listing(out, listing);
+        let added = added_of(outcome);
+        self.list_len = list_after(self.list_len, len, added);
+        added
     }
 
     // Adds an entry of READDIRPLUS to a listing.
@@ -112,22 +112,23 @@ impl ChainHandle {
         list: &mut [u8],
         entry: &DirEntry<'_>,
         node: Entry<u64>,
-    ) -> Result<Added, ChainError>
-        ensures adds { AddsTo (at.Lists out listing) self.new.state list.old list.new (listed entry.now, node)
+    ) -> Result<AddOutcome, ChainError>
+        ensures adds { AddsTo (at.Listing out listing) self.new.state list.old list.new
+            (listed entry.now, node)
             (λ l. added_found l (length list.old) (length entry.now.name.now)) result }
         ensures list { self.new.list_len ≡ list_after self.old.list_len (length list.old) result }
         ensures stays { IsAllButPlace self.old self.new }
     {
         let len = list.len();
         let outcome = listing.add_with_node(list, entry, node);
-        self.state = ChainState::Lists(out, listing);
-        let reported = reported_added(outcome);
-        self.list_len = list_after(self.list_len, len, reported);
-        reported
+        self.state = ChainState::Listing(out, listing);
+        let added = added_of(outcome);
+        self.list_len = list_after(self.list_len, len, added);
+        added
     }
 
     // Puts an entry of READDIR behind those of the listing that is in flight, if one is.
-    fn add_asked(&mut self, list: &mut [u8], entry: &DirEntry<'_>) -> Result<Added, ChainError>
+    fn add_asked(&mut self, list: &mut [u8], entry: &DirEntry<'_>) -> Result<AddOutcome, ChainError>
         ensures adds { AddsTo self.old.state self.new.state list.old list.new
             (listed entry.now, no_node (listed entry.now))
             (λ l. added_plain l (length list.old) (length entry.now.name.now)) result }
@@ -135,9 +136,9 @@ impl ChainHandle {
         ensures stays { IsAllButPlace self.old self.new }
     {
         match mem::replace(&mut self.state, ChainState::Free) {
-            ChainState::Lists(out, listing) => self.add_to(out, listing, list, entry),
-            ChainState::Waits(out, waiting) => {
-                self.state = ChainState::Waits(out, waiting);
+            ChainState::Listing(out, listing) => self.add_to(out, listing, list, entry),
+            ChainState::Decoded(out, waiting) => {
+                self.state = ChainState::Decoded(out, waiting);
                 Err(ChainError::OtherKind)
             }
             other => {
@@ -147,8 +148,8 @@ impl ChainHandle {
         }
     }
 
-    /// Puts an entry of READDIR behind the others, unless it doesn't fit (`Added`). The caller passes the
-    /// same list at each call. After an error nothing changed:
+    /// Puts an entry of READDIR behind the others, unless it doesn't fit (`AddOutcome`). The caller passes
+    /// the same list at each call. After an error nothing changed:
     /// - `WrongOrder`: no call is in flight.
     /// - `OtherCall`: another call than that of this number is.
     /// - `BadArgument`: the listing has entries, in a list of another length.
@@ -157,11 +158,11 @@ impl ChainHandle {
     #[tactic(auto, using(crate::proofs::HoldsListed::added_plain_from))]
     pub fn add(
         &mut self,
-        serial: u32,
+        ticket: u32,
         list: &mut [u8],
         entry: &DirEntry<'_>,
-    ) -> Result<Added, ChainError>
-        ensures reported { UnlessRefused (adding_error self.old serial (length list.old)) result
+    ) -> Result<AddOutcome, ChainError>
+        ensures returned { UnlessRefused (adding_error self.old ticket (length list.old)) result
             ((self.new ≡ self.old)
             × (list.new ≡ list.old))
             (AddsTo self.old.state self.new.state list.old list.new
@@ -172,10 +173,10 @@ impl ChainHandle {
             (λ l. added_plain l (length list.old) (length entry.now.name.now)) result) }
         ensures list { self.new.list_len ≡ list_after self.old.list_len (length list.old) result }
         ensures stays { IsAllButPlace self.old self.new }
-        ensures step { IfOk result (λ reported. AddsEntry self.old self.new list.old list.new
-            (listed entry.now, no_node (listed entry.now)) reported) }
+        ensures step { IfOk result (λ returned. AddsEntryInRun self.old self.new list.old list.new
+            (listed entry.now, no_node (listed entry.now)) returned) }
     {
-        match self.adding_error(serial, list.len()) {
+        match self.adding_error(ticket, list.len()) {
             Some(error) => Err(error),
             None => self.add_asked(list, entry),
         }
@@ -188,16 +189,16 @@ impl ChainHandle {
         list: &mut [u8],
         entry: &DirEntry<'_>,
         node: Entry<u64>,
-    ) -> Result<Added, ChainError>
+    ) -> Result<AddOutcome, ChainError>
         ensures adds { AddsTo self.old.state self.new.state list.old list.new (listed entry.now, node)
             (λ l. added_found l (length list.old) (length entry.now.name.now)) result }
         ensures list { self.new.list_len ≡ list_after self.old.list_len (length list.old) result }
         ensures stays { IsAllButPlace self.old self.new }
     {
         match mem::replace(&mut self.state, ChainState::Free) {
-            ChainState::Lists(out, listing) => self.add_node_to(out, listing, list, entry, node),
-            ChainState::Waits(out, waiting) => {
-                self.state = ChainState::Waits(out, waiting);
+            ChainState::Listing(out, listing) => self.add_node_to(out, listing, list, entry, node),
+            ChainState::Decoded(out, waiting) => {
+                self.state = ChainState::Decoded(out, waiting);
                 Err(ChainError::OtherKind)
             }
             other => {
@@ -207,18 +208,18 @@ impl ChainHandle {
         }
     }
 
-    /// Puts an entry of READDIRPLUS, with its node, behind the others, unless it doesn't fit (`Added`).
+    /// Puts an entry of READDIRPLUS, with its node, behind the others, unless it doesn't fit (`AddOutcome`).
     /// The caller then forgets the look-up that it made for the entry. Errors are those of `add`, for
     /// READDIRPLUS.
     #[tactic(auto, using(crate::proofs::HoldsListed::added_found_from))]
     pub fn add_with_node(
         &mut self,
-        serial: u32,
+        ticket: u32,
         list: &mut [u8],
         entry: &DirEntry<'_>,
         node: Entry<u64>,
-    ) -> Result<Added, ChainError>
-        ensures reported { UnlessRefused (adding_error self.old serial (length list.old)) result
+    ) -> Result<AddOutcome, ChainError>
+        ensures returned { UnlessRefused (adding_error self.old ticket (length list.old)) result
             ((self.new ≡ self.old)
             × (list.new ≡ list.old))
             (AddsTo self.old.state self.new.state list.old list.new (listed entry.now, node)
@@ -229,9 +230,10 @@ impl ChainHandle {
         ensures list { self.new.list_len ≡ list_after self.old.list_len (length list.old) result }
         ensures stays { IsAllButPlace self.old self.new }
         ensures step { IfOk result
-            (λ reported. AddsEntry self.old self.new list.old list.new (listed entry.now, node) reported) }
+            (λ returned. AddsEntryInRun self.old self.new list.old list.new (listed entry.now, node)
+            returned) }
     {
-        match self.adding_error(serial, list.len()) {
+        match self.adding_error(ticket, list.len()) {
             Some(error) => Err(error),
             None => self.add_node_asked(list, entry, node),
         }
@@ -239,11 +241,11 @@ impl ChainHandle {
 
     fn keep_listed(&mut self, out: InFlight, reply: ListingReply) -> usize
         ensures len { result ≡ reply.len }
-        ensures preserved { self.new ≡ record self.old { state = answered_by out reply } }
+        ensures kept { self.new ≡ record self.old { state = answered_by out reply } }
     {
         let behind = reply.len;
         let front = Some(reply.front);
-        self.state = ChainState::HasReply(out, ChainReply { front, behind });
+        self.state = ChainState::Replied(out, ChainReply { front, behind });
         behind
     }
 
@@ -254,9 +256,9 @@ impl ChainHandle {
         ensures stays { IsAllButPlace self.old self.new }
     {
         match mem::replace(&mut self.state, ChainState::Free) {
-            ChainState::Lists(out, listing) => Ok(self.keep_listed(out, listing.end())),
-            ChainState::Waits(out, waiting) => {
-                self.state = ChainState::Waits(out, waiting);
+            ChainState::Listing(out, listing) => Ok(self.keep_listed(out, listing.end())),
+            ChainState::Decoded(out, waiting) => {
+                self.state = ChainState::Decoded(out, waiting);
                 Err(ChainError::OtherKind)
             }
             other => {
@@ -272,15 +274,15 @@ impl ChainHandle {
     /// - `OtherCall`: another call than that of this number is.
     /// - `OtherKind`: the call is no listing.
     #[tactic(auto, using(crate::proofs::HoldsListed::ended_from))]
-    pub fn end(&mut self, serial: u32) -> Result<usize, ChainError>
-        ensures reported { UnlessRefused (serial_error self.old.state self.old.serial serial) result
+    pub fn end(&mut self, ticket: u32) -> Result<usize, ChainError>
+        ensures returned { UnlessRefused (ticket_error self.old.state self.old.ticket ticket) result
             (self.new ≡ self.old) (EndsByEntries self.old.state self.new.state result) }
         ensures ended { OnOk result (EndsByEntries self.old.state self.new.state result) }
         ensures same { OnErr result (self.new ≡ self.old) }
         ensures stays { IsAllButPlace self.old self.new }
-        ensures step { IfOk result (λ len. EndsListing self.old self.new len) }
+        ensures step { IfOk result (λ len. EndsListingInRun self.old self.new len) }
     {
-        match self.serial_error(serial) {
+        match self.ticket_error(ticket) {
             Some(error) => Err(error),
             None => self.end_asked(),
         }
@@ -293,9 +295,9 @@ impl ChainHandle {
         ensures stays { IsAllButPlace self.old self.new }
     {
         match mem::replace(&mut self.state, ChainState::Free) {
-            ChainState::Lists(out, listing) => Ok(self.keep_listed(out, listing.fail(error))),
-            ChainState::Waits(out, waiting) => {
-                self.state = ChainState::Waits(out, waiting);
+            ChainState::Listing(out, listing) => Ok(self.keep_listed(out, listing.fail(error))),
+            ChainState::Decoded(out, waiting) => {
+                self.state = ChainState::Decoded(out, waiting);
                 Err(ChainError::OtherKind)
             }
             other => {
@@ -308,15 +310,15 @@ impl ChainHandle {
     /// Replies that the listing failed. Returns how many bytes of the list are the data. Errors are those
     /// of `end`.
     #[tactic(auto, using(crate::proofs::HoldsListed::failed_from))]
-    pub fn fail(&mut self, serial: u32, error: Errno) -> Result<usize, ChainError>
-        ensures reported { UnlessRefused (serial_error self.old.state self.old.serial serial) result
+    pub fn fail(&mut self, ticket: u32, error: Errno) -> Result<usize, ChainError>
+        ensures returned { UnlessRefused (ticket_error self.old.state self.old.ticket ticket) result
             (self.new ≡ self.old) (EndsByError error self.old.state self.new.state result) }
         ensures failed { OnOk result (EndsByError error self.old.state self.new.state result) }
         ensures same { OnErr result (self.new ≡ self.old) }
         ensures stays { IsAllButPlace self.old self.new }
-        ensures step { IfOk result (λ len. FailsListing error self.old self.new len) }
+        ensures step { IfOk result (λ len. FailsListingInRun error self.old self.new len) }
     {
-        match self.serial_error(serial) {
+        match self.ticket_error(ticket) {
             Some(refusal) => Err(refusal),
             None => self.fail_asked(error),
         }

@@ -6,7 +6,7 @@ ghost use Rattle.memory_requests.specs.Refused.{RoomWasRefused};
 ghost use Rattle.fs_chain.specs.Ending.{EndsSoon};
 ghost use Rattle.fs_chain.specs.Holds.{PopsBy};
 ghost use Rattle.fs_chain.specs.Loads.{AreDue, AreOthers, AreWanted, AreWhole, ProceedsSo, HasNoPlace};
-ghost use Rattle.fs_chain.specs.Loads.{IsLoadWindow, IsSame, RefusesWalk, came, due_len, whole};
+ghost use Rattle.fs_chain.specs.Loads.{IsLoadWindow, IsSame, RefusesAPop, came, due_len, whole};
 ghost use Rattle.fs_chain.specs.Orders.{load_len, walk_error};
 ghost use Rattle.fs_chain.specs.Walks.{IsAllBut, IsAllButPart, LacksRoom, WalksOn};
 
@@ -79,7 +79,7 @@ impl ChainHandle {
 
     // Keeps some first bytes of the load, or none.
     fn keep_part(&mut self, part: Vec<u8>)
-        ensures preserved { self.new.part ≡ part }
+        ensures kept { self.new.part ≡ part }
         ensures apart { self.new ≡ record self.old { part = self.new.part } }
         ensures stays { IsAllButPart self.old self.new }
     {
@@ -143,7 +143,7 @@ impl ChainHandle {
         requires len { length loaded.now ≡ due_len self.old loaded.now }
         ensures proceeds { IfOk result (λ outcome. ProceedsSo self.old queue.old loaded.now outcome self.new
             queue.new) }
-        ensures error { IfErr result (RefusesWalk self.old queue.old loaded.now) }
+        ensures error { IfErr result (RefusesAPop self.old queue.old loaded.now) }
         ensures same { OnErr result (IsSame self.old self.new × (queue.new ≡ queue.old)) }
     {
         match self.walk_load(queue, loaded) {
@@ -165,7 +165,7 @@ impl ChainHandle {
         requires { 0 < load_len self.old.state }
         ensures proceeds { IfOk result (λ outcome. ProceedsSo self.old queue.old loaded.now outcome self.new
             queue.new) }
-        ensures error { IfErr result (RefusesWalk self.old queue.old loaded.now) }
+        ensures error { IfErr result (RefusesAPop self.old queue.old loaded.now) }
         ensures same { OnErr result (IsSame self.old self.new × (queue.new ≡ queue.old)) }
     {
         let asked = self.load_len();
@@ -176,7 +176,7 @@ impl ChainHandle {
         if !self.are_wanted(loaded.len()) {
             return Err(ChainError::BadArgument);
         }
-        if let Some(error) = self.walk_refusal(queue, asked) {
+        if let Some(error) = self.pop_refusal(queue, asked) {
             return Err(error);
         }
         if let Err(error) = self.join_part(loaded) {
@@ -207,7 +207,7 @@ impl ChainHandle {
     pub fn pop(&mut self, queue: &mut QueueState, loaded: &[u8]) -> Result<LoadOutcome, ChainError>
         ensures proceeds { IfOk result (λ outcome. ProceedsSo self.old queue.old loaded.now outcome self.new
             queue.new) }
-        ensures error { IfErr result (RefusesWalk self.old queue.old loaded.now) }
+        ensures error { IfErr result (RefusesAPop self.old queue.old loaded.now) }
         ensures same { OnErr result (IsSame self.old self.new × (queue.new ≡ queue.old)) }
         ensures step { IfOk result
             (λ outcome. PopsBy self.old.state self.old self.new queue.old queue.new loaded.now outcome) }

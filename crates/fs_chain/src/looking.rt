@@ -46,11 +46,11 @@ impl ChainHandle {
     {
         match &self.state {
             ChainState::Free => 1,
-            ChainState::Walking(_, _, _) => 2,
-            ChainState::Taken(_) => 3,
-            ChainState::Waits(_, _) => 4,
-            ChainState::Lists(_, _) => 5,
-            ChainState::HasReply(_, _) => 6,
+            ChainState::Popping(_, _, _) => 2,
+            ChainState::Popped(_) => 3,
+            ChainState::Decoded(_, _) => 4,
+            ChainState::Listing(_, _) => 5,
+            ChainState::Replied(_, _) => 6,
             ChainState::Pushing(_) => 7,
         }
     }
@@ -88,7 +88,7 @@ impl ChainHandle {
     pub fn is_listing(&self) -> bool
         ensures { result ≡ is_listing self.now.state }
     {
-        matches!(self.state, ChainState::Lists(_, _))
+        matches!(self.state, ChainState::Listing(_, _))
     }
 
     /// How many bytes of data the READ in flight can be answered with; None if no READ is in flight.
@@ -96,7 +96,7 @@ impl ChainHandle {
         ensures { result ≡ read_limit self.now.state }
     {
         match &self.state {
-            ChainState::Waits(_, waiting) => match waiting.awaits() {
+            ChainState::Decoded(_, waiting) => match waiting.awaits() {
                 Awaits::FileBytes { most } => Some(most),
                 _ => None,
             },
@@ -109,7 +109,7 @@ impl ChainHandle {
         ensures { result ≡ load_len self.now.state }
     {
         match &self.state {
-            ChainState::Walking(_, _, walk) => walk.len(),
+            ChainState::Popping(_, _, walk) => walk.len(),
             _ => 0,
         }
     }
@@ -119,12 +119,12 @@ impl ChainHandle {
         ensures { result ≡ room_len self.now.state }
     {
         match &self.state {
-            ChainState::Taken(out)
-            | ChainState::Waits(out, _)
-            | ChainState::Lists(out, _)
-            | ChainState::HasReply(out, _)
+            ChainState::Popped(out)
+            | ChainState::Decoded(out, _)
+            | ChainState::Listing(out, _)
+            | ChainState::Replied(out, _)
             | ChainState::Pushing(out) => out.room_len,
-            ChainState::Free | ChainState::Walking(_, _, _) => 0,
+            ChainState::Free | ChainState::Popping(_, _, _) => 0,
         }
     }
 

@@ -5,7 +5,7 @@ ghost use Rattle.std.specs.Prelude.{◌≡◌, option_map};
 ghost use Rattle.fs_regions.specs.Places.{places_in};
 ghost use Rattle.fs_chain.specs.Events.{avail_event_at, event_fault, event_miss, notification_store};
 ghost use Rattle.fs_chain.specs.Events.{seen_at, store_of, notifies_of, used_event_at};
-ghost use Rattle.fs_chain.specs.HoldsAround.{StoresNotice};
+ghost use Rattle.fs_chain.specs.HoldsAround.{StoresNotificationInRun};
 
 use crate::queue::QueueState;
 use fs_queue::{QueueError, QueueLayout, Return};
@@ -100,7 +100,7 @@ impl QueueState {
     #[tactic(auto, using(crate::proofs::HoldsAround::stores_notice))]
     pub fn notification_store(&self, wanted: bool) -> Option<NotificationStore>
         ensures store { option_map store_of result ≡ notification_store self.now wanted }
-        ensures step { StoresNotice self.now wanted result }
+        ensures step { StoresNotificationInRun self.now wanted result }
     {
         if self.event_index {
             if !wanted {

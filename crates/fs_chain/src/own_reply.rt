@@ -1,7 +1,7 @@
 //! A reply of the caller's own bytes, to a request that the server doesn't serve.
 
 ghost use Rattle.std.specs.Prelude.{◌≡◌, None, Some, IfErr, OnOk, OnErr};
-ghost use Rattle.fs_chain.specs.Holds.{RepliesOwn};
+ghost use Rattle.fs_chain.specs.Holds.{RepliesOwnInRun};
 ghost use Rattle.fs_chain.specs.OwnReplies.{IfUnanswered, own_error, own_len_error, own_reply};
 ghost use Rattle.fs_chain.specs.Orders.{front_len, reply_len};
 ghost use Rattle.fs_chain.specs.declared.state.ChainState.TheVariants as at;
@@ -16,33 +16,33 @@ impl ChainHandle {
         ensures error { IfErr result (λ e. own_len_error out.room_len len ≡ Some e) }
         ensures ok { OnOk result (own_len_error out.room_len len ≡ None) }
         ensures same { OnErr result (self.new ≡ self.old) }
-        ensures preserved { OnOk result (self.new ≡ record self.old
-            { state = at.HasReply out (own_reply len) }) }
-        ensures reported { OnOk result ((front_len (own_reply len) ≡ 0)
+        ensures kept { OnOk result (self.new ≡ record self.old
+            { state = at.Replied out (own_reply len) }) }
+        ensures returned { OnOk result ((front_len (own_reply len) ≡ 0)
             × (reply_len out (own_reply len) ≡ len)) }
     {
         if out.room_len < len || (u32::MAX as usize) < len {
             return Err(ChainError::LongReply);
         }
         let front = None;
-        self.state = ChainState::HasReply(out, ChainReply { front, behind: len });
+        self.state = ChainState::Replied(out, ChainReply { front, behind: len });
         Ok(())
     }
 
     // Keeps a reply for the chain of this number, if it has none.
-    fn reply_known(&mut self, serial: u32, len: usize) -> Result<(), ChainError>
-        ensures error { IfErr result (λ e. own_error self.old.state self.old.serial serial len ≡ Some e) }
-        ensures ok { OnOk result (own_error self.old.state self.old.serial serial len ≡ None) }
+    fn reply_known(&mut self, ticket: u32, len: usize) -> Result<(), ChainError>
+        ensures error { IfErr result (λ e. own_error self.old.state self.old.ticket ticket len ≡ Some e) }
+        ensures ok { OnOk result (own_error self.old.state self.old.ticket ticket len ≡ None) }
         ensures same { OnErr result (self.new ≡ self.old) }
-        ensures preserved { OnOk result (IfUnanswered self.old.state
-            (λ out. self.new ≡ record self.old { state = at.HasReply out (own_reply len) })) }
-        ensures reported { OnOk result (IfUnanswered self.old.state (λ out. (front_len (own_reply len) ≡ 0)
+        ensures kept { OnOk result (IfUnanswered self.old.state
+            (λ out. self.new ≡ record self.old { state = at.Replied out (own_reply len) })) }
+        ensures returned { OnOk result (IfUnanswered self.old.state (λ out. (front_len (own_reply len) ≡ 0)
             × (reply_len out (own_reply len) ≡ len))) }
     {
         match &self.state {
-            ChainState::Taken(out) | ChainState::Waits(out, _) | ChainState::Lists(out, _) => {
+            ChainState::Popped(out) | ChainState::Decoded(out, _) | ChainState::Listing(out, _) => {
                 let out = *out;
-                if self.serial != serial {
+                if self.ticket != ticket {
                     return Err(ChainError::OtherCall);
                 }
                 self.keep_own(out, len)
@@ -61,19 +61,19 @@ impl ChainHandle {
     ///
     /// After an error nothing changed:
     /// - `WrongOrder`: no chain is in flight, or its reply is known. A faulty chain's is: it has none.
-    /// - `OtherCall`: the number is another one (`serial`).
+    /// - `OtherCall`: the number is another one (`ticket`).
     /// - `LongReply`: the reply buffer is shorter, or `len` is 2^32 or more.
     #[tactic(auto, using(crate::proofs::HoldsEnded::replies_own_from))]
-    pub fn reply(&mut self, serial: u32, len: usize) -> Result<(), ChainError>
-        ensures error { IfErr result (λ e. own_error self.old.state self.old.serial serial len ≡ Some e) }
-        ensures ok { OnOk result (own_error self.old.state self.old.serial serial len ≡ None) }
+    pub fn reply(&mut self, ticket: u32, len: usize) -> Result<(), ChainError>
+        ensures error { IfErr result (λ e. own_error self.old.state self.old.ticket ticket len ≡ Some e) }
+        ensures ok { OnOk result (own_error self.old.state self.old.ticket ticket len ≡ None) }
         ensures same { OnErr result (self.new ≡ self.old) }
-        ensures preserved { OnOk result (IfUnanswered self.old.state
-            (λ out. self.new ≡ record self.old { state = at.HasReply out (own_reply len) })) }
-        ensures reported { OnOk result (IfUnanswered self.old.state (λ out. (front_len (own_reply len) ≡ 0)
+        ensures kept { OnOk result (IfUnanswered self.old.state
+            (λ out. self.new ≡ record self.old { state = at.Replied out (own_reply len) })) }
+        ensures returned { OnOk result (IfUnanswered self.old.state (λ out. (front_len (own_reply len) ≡ 0)
             × (reply_len out (own_reply len) ≡ len))) }
-        ensures step { OnOk result (RepliesOwn self.old self.new len) }
+        ensures step { OnOk result (RepliesOwnInRun self.old self.new len) }
     {
-        self.reply_known(serial, len)
+        self.reply_known(ticket, len)
     }
 }

@@ -3,7 +3,7 @@
 ghost use Rattle.std.specs.Prelude.{◌≡◌, [], Some, None};
 ghost use Rattle.fs_chain.specs.Queues.{took};
 ghost use Rattle.fs_chain.specs.Walks.{IsAllBut, StaysForLoad, left_of, queue_after, state_after};
-ghost use Rattle.fs_chain.specs.Walks.{reported_of};
+ghost use Rattle.fs_chain.specs.Walks.{outcome_of};
 ghost use Rattle.fs_chain.specs.declared.state.ChainState.TheVariants as at;
 
 use crate::chain_handle::ChainHandle;
@@ -59,8 +59,8 @@ impl ChainHandle {
         pop_id: PopId,
         head: u16,
     ) -> PopOutcome
-        ensures reported { result ≡ reported_of self.old.descriptors.items (CourseStep.Chain head None) }
-        ensures preserved { self.new ≡ record self.old {
+        ensures returned { result ≡ outcome_of self.old.descriptors.items (CourseStep.Chain head None) }
+        ensures kept { self.new ≡ record self.old {
           state = state_after course pop_id self.old.descriptors.items (CourseStep.Chain head None);
         } }
         ensures queue { queue.new ≡ took queue.old }
@@ -68,7 +68,7 @@ impl ChainHandle {
         let (request_len, room_len) = count_both(&self.descriptors);
         let (request_len, room_len) = (request_len as usize, room_len as usize);
         queue.take();
-        self.state = ChainState::Taken(InFlight {
+        self.state = ChainState::Popped(InFlight {
             course,
             pop_id,
             head,
@@ -91,7 +91,7 @@ impl ChainHandle {
         head: u16,
         fault: ChainFault,
     ) -> PopOutcome
-        ensures reported { result ≡ PopOutcome.Faulty head fault }
+        ensures returned { result ≡ PopOutcome.Faulty head fault }
         ensures state { self.new.state
             ≡ state_after course pop_id self.new.descriptors.items (CourseStep.Chain head (Some fault)) }
         ensures empty { self.new.descriptors.items ≡ [] }
@@ -112,7 +112,7 @@ impl ChainHandle {
             front: None,
             behind: 0,
         };
-        self.state = ChainState::HasReply(out, reply);
+        self.state = ChainState::Replied(out, reply);
         PopOutcome::Faulty { head, fault }
     }
 
@@ -133,7 +133,7 @@ impl ChainHandle {
         pop_id: PopId,
         step: CourseStep,
     ) -> PopOutcome
-        ensures reported { result ≡ reported_of self.new.descriptors.items step }
+        ensures returned { result ≡ outcome_of self.new.descriptors.items step }
         ensures state { self.new.state ≡ state_after course pop_id self.new.descriptors.items step }
         ensures left { self.new.descriptors.items ≡ left_of step self.old.descriptors.items }
         ensures stays { StaysForLoad step self.old.descriptors self.new.descriptors }
@@ -144,7 +144,7 @@ impl ChainHandle {
         match step {
             CourseStep::Load(walk) => {
                 let len = walk.len();
-                self.state = ChainState::Walking(course, pop_id, walk);
+                self.state = ChainState::Popping(course, pop_id, walk);
                 PopOutcome::Load(len)
             }
             CourseStep::Idle => {

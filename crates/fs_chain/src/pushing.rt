@@ -3,11 +3,11 @@
 ghost use Rattle.std.specs.Prelude.{◌≡◌, ◌<◌, true, nat_lt, IfSome, None, Some, false, Err, IfErr, IfOk};
 ghost use Rattle.std.specs.Prelude.{OnOk, OnErr, length};
 ghost use Rattle.fs_chain.specs.Events.{notifies_of};
-ghost use Rattle.fs_chain.specs.Orders.{end_error, front_len, has_ring, push_error, return_error};
+ghost use Rattle.fs_chain.specs.Orders.{end_error, front_len, has_ring, push_error, push_refusal};
 ghost use Rattle.fs_chain.specs.Queues.{gave};
-ghost use Rattle.fs_chain.specs.Holds.{EndsPush, Pushes};
-ghost use Rattle.fs_chain.specs.Pushes.{IfHasReply, PushesBy, put_front};
-ghost use Rattle.fs_chain.specs.Serials.{freed};
+ghost use Rattle.fs_chain.specs.Holds.{EndsPushInRun, PushesInRun};
+ghost use Rattle.fs_chain.specs.Pushes.{IfReplied, PushesBy, put_front};
+ghost use Rattle.fs_chain.specs.Tickets.{freed};
 ghost use Rattle.fs_chain.specs.declared.state.ChainState.TheVariants as at;
 
 use crate::chain_handle::ChainHandle;
@@ -64,11 +64,11 @@ fn stores_of(
     front: &mut [u8],
 ) -> Result<PushStores, ChainError>
     ensures error { IfErr result
-        (λ e. push_error (has_ring (at.HasReply out.now reply.now) regions.now)
-        (at.HasReply out.now reply.now) queue.now (length front.old) ≡ Some e) }
-    ensures ring { OnOk result (has_ring (at.HasReply out.now reply.now) regions.now ≡ true) }
+        (λ e. push_error (has_ring (at.Replied out.now reply.now) regions.now)
+        (at.Replied out.now reply.now) queue.now (length front.old) ≡ Some e) }
+    ensures ring { OnOk result (has_ring (at.Replied out.now reply.now) regions.now ≡ true) }
     ensures ok { OnOk result
-        (return_error (at.HasReply out.now reply.now) queue.now (length front.old) ≡ None) }
+        (push_refusal (at.Replied out.now reply.now) queue.now (length front.old) ≡ None) }
     ensures short { result ≡ Err ChainError.ShortBuffer → length front.old < 160 }
     ensures same { OnErr result (front.new ≡ front.old) }
     ensures stores { IfOk result (λ s. PushesBy queue.now out.now reply.now s) }
@@ -123,23 +123,23 @@ impl ChainHandle {
     ) -> Result<PushStores, ChainError>
         ensures error { IfErr result (λ e. push_error (has_ring self.old.state self.old.regions)
             self.old.state queue.old (length front.old) ≡ Some e) }
-        ensures ok { OnOk result (return_error self.old.state queue.old (length front.old) ≡ None) }
+        ensures ok { OnOk result (push_refusal self.old.state queue.old (length front.old) ≡ None) }
         ensures ring { OnOk result (has_ring self.old.state self.old.regions ≡ true) }
         ensures short { result ≡ Err ChainError.ShortBuffer → length front.old < 160 }
         ensures same { OnErr result ((self.new ≡ self.old)
             × (front.new ≡ front.old)
             × (queue.new ≡ queue.old)) }
         ensures pushing { OnOk result
-            (IfHasReply self.old.state (λ out reply. self.new ≡ record self.old { state = at.Pushing out })) }
+            (IfReplied self.old.state (λ out reply. self.new ≡ record self.old { state = at.Pushing out })) }
         ensures queue { OnOk result (queue.new ≡ record queue.old { pushing = true }) }
         ensures stores { IfOk result
-            (λ s. IfHasReply self.old.state (λ out reply. PushesBy queue.old out reply s)) }
+            (λ s. IfReplied self.old.state (λ out reply. PushesBy queue.old out reply s)) }
         ensures front { OnOk result
-            (IfHasReply self.old.state (λ out reply. front.new ≡ put_front reply front.old)) }
-        ensures step { IfOk result (λ s. Pushes self.old self.new queue.old front.new s) }
+            (IfReplied self.old.state (λ out reply. front.new ≡ put_front reply front.old)) }
+        ensures step { IfOk result (λ s. PushesInRun self.old self.new queue.old front.new s) }
     {
         match &self.state {
-            ChainState::HasReply(out, reply) => {
+            ChainState::Replied(out, reply) => {
                 match stores_of(&self.regions, queue, out, reply, front) {
                     Ok(stores) => {
                         // Field by field, and last: so the compiler leaves them where they are.
@@ -171,18 +171,18 @@ impl ChainHandle {
         ensures same { OnErr result ((self.new ≡ self.old) × (queue.new ≡ queue.old)) }
         ensures free { OnOk result (self.new ≡ freed self.old) }
         ensures queue { OnOk result (queue.new ≡ gave queue.old) }
-        ensures notifies { IfOk result (λ reported. reported ≡ notifies_of queue.old seen) }
-        ensures step { IfOk result (λ notice. EndsPush self.old queue.old queue.new seen notice) }
+        ensures notifies { IfOk result (λ notify. notify ≡ notifies_of queue.old seen) }
+        ensures step { IfOk result (λ notice. EndsPushInRun self.old queue.old queue.new seen notice) }
     {
         match &self.state {
             ChainState::Pushing(out) => {
                 if !queue.has_out(out) || !queue.pushing {
                     return Err(ChainError::OtherQueue);
                 }
-                let reported = queue.notifies(seen);
+                let notify = queue.notifies(seen);
                 self.free();
                 queue.pushed();
-                Ok(reported)
+                Ok(notify)
             }
             _ => Err(ChainError::WrongOrder),
         }

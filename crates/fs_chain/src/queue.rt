@@ -1,7 +1,7 @@
 //! A queue's state, which the caller keeps.
 
 ghost use Rattle.std.specs.Prelude.{◌≡◌};
-ghost use Rattle.fs_chain.specs.HoldsAround.{Resets};
+ghost use Rattle.fs_chain.specs.HoldsAround.{ResetsInRun};
 ghost use Rattle.fs_chain.specs.Queues.{reset_to, new_queue, gave, fits_pop, is_laid_out, is_last};
 ghost use Rattle.fs_chain.specs.Queues.{is_in_flight_of, may_take, in_flight, pop_id_of, took, gave_up};
 
@@ -71,7 +71,7 @@ impl QueueState {
     /// would be valid again after 2^32 resets. `max_in_flight` and the event index stay.
     pub fn reset(&mut self, layout: QueueLayout, position: u16)
         ensures set { self.new ≡ reset_to self.old layout position }
-        ensures step { Resets self.old self.new }
+        ensures step { ResetsInRun self.old self.new }
     {
         self.layout = layout;
         self.next_avail = position;
@@ -116,7 +116,7 @@ impl QueueState {
     }
 
     // Gives up the chain that was popped last: the next pop finds it again.
-    pub(crate) fn untake(&mut self)
+    pub(crate) fn unpop(&mut self)
         ensures { self.new ≡ gave_up self.old }
     {
         self.next_avail = self.next_avail.wrapping_sub(1);
@@ -151,7 +151,7 @@ impl QueueState {
     }
 
     // Whether a chain is the last one that was popped.
-    pub(crate) fn took_last(&self, out: &InFlight) -> bool
+    pub(crate) fn popped_last(&self, out: &InFlight) -> bool
         ensures { result ≡ is_last self.now out.now }
     {
         self.next_avail == out.course.position.wrapping_add(1)

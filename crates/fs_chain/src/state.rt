@@ -36,15 +36,15 @@ pub enum ChainState {
     /// No chain: the handle is free for a pop.
     Free,
     /// It is being popped.
-    Walking(Course, PopId, QueueWalk),
+    Popping(Course, PopId, QueueWalk),
     /// It is in flight, and its request wasn't decoded.
-    Taken(InFlight),
+    Popped(InFlight),
     /// Its file call is in flight.
-    Waits(InFlight, Waiting),
+    Decoded(InFlight, Waiting),
     /// Its listing gathers entries.
-    Lists(InFlight, Listing),
+    Listing(InFlight, Listing),
     /// Its reply is known.
-    HasReply(InFlight, ChainReply),
+    Replied(InFlight, ChainReply),
     /// A push returned its stores, and `pushed` hasn't ended it.
     Pushing(InFlight),
 }

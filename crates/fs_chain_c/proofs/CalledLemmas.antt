@@ -16,7 +16,7 @@ use Rattle.fs_chain_c.specs.declared.notifications.FsStore.{FsStore}
 use Rattle.fs_chain_c.specs.declared.queue.FsQueue.{FsQueue}
 use Rattle.fs_chain_c.specs.Handles.{EndsPush}
 use Rattle.fs_chain_c.specs.LawsCalled.{ChecksSo, WishesSo, published_by, walked_by}
-use Rattle.fs_chain_c.specs.Notifications.{AsksKicks, SetsNotification}
+use Rattle.fs_chain_c.specs.Notifications.{SetsNotifying, SetsNotification}
 use Rattle.fs_chain_c.specs.Notifying.{NotifyIsACheck, StoresAWish}
 use Rattle.fs_chain_c.specs.Pushing.{EndsHandlePush}
 use Rattle.fs_chain_c.specs.Queues.{IsQueueState}
@@ -55,15 +55,15 @@ counted q k is avail used few =
     let P : FsQueue → Type 0 = λ x. (x.next_avail < 2 ^ 16) × (x.next_used < 2 ^ 16) × (x.max_in_flight < 2 ^ 16) in
     subst P (sym is.numbers) (avail, used, most q.max_in_flight few)
 
-pub wishes_so : StoresAWish → (before after : Option ChainHandle) (q : FsQueue) (reported : FsStore) (status : ℕ)
-    → AsksKicks before q 1 status reported after → q.next_avail < 2 ^ 16 → q.next_used < 2 ^ 16 → q.max_in_flight < 2 ^ 16
-    → status ≡ 0 → WishesSo before q reported
-wishes_so law None None q reported status asks avail used few done = absurd (no_error error.WrongOrder (sym done ∙ asks.0))
-wishes_so law (Some b) (Some b') q reported status asks avail used few done =
-    let made = law b q reported (subst (λ (n : ℕ). SetsNotification b q 1 reported n) done asks.0) in
+pub wishes_so : StoresAWish → (before after : Option ChainHandle) (q : FsQueue) (filled : FsStore) (status : ℕ)
+    → SetsNotifying before q 1 status filled after → q.next_avail < 2 ^ 16 → q.next_used < 2 ^ 16 → q.max_in_flight < 2 ^ 16
+    → status ≡ 0 → WishesSo before q filled
+wishes_so law None None q filled status asks avail used few done = absurd (no_error error.WrongOrder (sym done ∙ asks.0))
+wishes_so law (Some b) (Some b') q filled status asks avail used few done =
+    let made = law b q filled (subst (λ (n : ℕ). SetsNotification b q 1 filled n) done asks.0) in
     let k = made.0 in
     (b, k, refl, made.1, λ s. made.2 (walked_by k s) (counted q k made.1 avail used few) (refl, refl) refl)
-wishes_so law _ _ q reported status asks avail used few done = absurd asks
+wishes_so law _ _ q filled status asks avail used few done = absurd asks
 
 -- the driver's two bytes are its wish, as flags and as an event
 shows_so : (by_event : Bool) (bytes : List ℕ)

@@ -28,9 +28,9 @@ marks_reply law (Some b) (Some b') from most ranges ranges' count reports =
     fills_by law b from (min most (2 ^ 64 - 1 - from)) count ranges ranges' reports.0
 marks_reply law _ _ from most ranges ranges' count reports = absurd reports
 
-pub marks_used : PushReportsAddresses → (before after : Option ChainHandle) (q q' : FsQueue) (front front' : List ℕ) (reported : FsStores)
-    (status : ℕ) → Pushes before q front status reported after q' front' → status ≡ 0 → MarksUsed q reported
-marks_used law None None q q' front front' reported status pushes done = absurd (no_error error.WrongOrder (sym done ∙ pushes.0))
-marks_used law (Some b) (Some b') q q' front front' reported status pushes done =
-    law b b' q q' front front' reported (subst (λ (n : ℕ). PushesHandle b q front reported n b' q' front') done pushes)
-marks_used law _ _ q q' front front' reported status pushes done = absurd pushes
+pub marks_used : PushReportsAddresses → (before after : Option ChainHandle) (q q' : FsQueue) (front front' : List ℕ) (filled : FsStores)
+    (status : ℕ) → Pushes before q front status filled after q' front' → status ≡ 0 → MarksUsed q filled
+marks_used law None None q q' front front' filled status pushes done = absurd (no_error error.WrongOrder (sym done ∙ pushes.0))
+marks_used law (Some b) (Some b') q q' front front' filled status pushes done =
+    law b b' q q' front front' filled (subst (λ (n : ℕ). PushesHandle b q front filled n b' q' front') done pushes)
+marks_used law _ _ q q' front front' filled status pushes done = absurd pushes

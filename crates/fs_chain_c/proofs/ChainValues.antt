@@ -25,23 +25,23 @@ use Rattle.fs_chain_c.proofs.BoxValues.{al, owns_box, two}
 abbrev pub Work : RattleType
 Work = handle.the_row
 
-abbrev pub Chain : RattleType
-Chain = chain.the_row
+abbrev pub BoxedChain : RattleType
+BoxedChain = chain.the_row
 
 module _ {M : Type 1} {𝓤 : Ura M} {𝓛 : Logic 𝓤} {K : Type 0} {Γ : List (Item 𝓤)} {G : Goal 𝓤 𝓛.H} where
   -- a handle's box: [what it owns; the allocator's handle]
-  pub chain_out : K → (d : Chain.Denot) (vs : List Val)
+  pub chain_out : K → (d : BoxedChain.Denot) (vs : List Val)
       → ((h : Val) → vs ≡ two d.at h ∷ [] → Fits al h
       → Seq K 𝓛 (‵ (chain_owns d.alloc d.at d.value) ∷ ‵ ((Heap.the_row).own_val d.alloc (h ∷ [])) ∷ Γ) G)
-      → Seq K 𝓛 (‵ (Chain.own_val d vs) ∷ Γ) G
+      → Seq K 𝓛 (‵ (BoxedChain.own_val d vs) ∷ Γ) G
   chain_out t d vs k =
       fsplit t $ fpick t (λ vss. fsplit t $ feq_l t (λ ev.
       fsplit t $ feq_l t (λ ep. fsplit t $ handle_tells al t d.alloc vss.1.0 (λ h ea fits. move t (1 ∷ []) $ drop t $ move t (1 ∷ []) $
       k h (subst (λ (ws : List Val). vs ≡ vstruct (of_list (ptr_val d.at ∷ (ws ++ []))) ∷ []) ea
       (subst (λ (ps : List Val). vs ≡ vstruct (of_list (ps ++ (vss.1.0 ++ []))) ∷ []) ep ev)) fits))))
 
-  pub chain_in : K → (d : Chain.Denot) (h : Val)
-      → Step K 𝓛 (‵ (Chain.own_val d (two d.at h ∷ [])) ∷ Γ) G
+  pub chain_in : K → (d : BoxedChain.Denot) (h : Val)
+      → Step K 𝓛 (‵ (BoxedChain.own_val d (two d.at h ∷ [])) ∷ Γ) G
       (‵ (chain_owns d.alloc d.at d.value) ∷ ‵ ((Heap.the_row).own_val d.alloc (h ∷ [])) ∷ Γ) G
   chain_in t d h = step (λ s.
       nothing t $ move t (2 ∷ 0 ∷ []) $ fjoin t $ feq_i t (List Val) (ptr_val d.at ∷ []) (ptr_val d.at ∷ []) refl $ fjoin t $
@@ -56,7 +56,7 @@ module _ {M : Type 1} {𝓤 : Ura M} {𝓛 : Logic 𝓤} {K : Type 0} {Γ : List
   full_at t a p (Some x) is k = k x refl
 
   -- it owns a box, if it isn't null
-  pub full : K → (d : Chain.Denot) → is_some d.value ≡ true
+  pub full : K → (d : BoxedChain.Denot) → is_some d.value ≡ true
       → ((x : Work.Denot) → d.value ≡ Some x → Seq K 𝓛 (‵ (owns_box Work d.alloc d.at x) ∷ Γ) G)
       → Seq K 𝓛 (‵ (chain_owns d.alloc d.at d.value) ∷ Γ) G
   full t d is k = full_at t d.alloc d.at d.value is k

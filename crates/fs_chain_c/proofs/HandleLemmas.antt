@@ -6,7 +6,7 @@ use Rattle.fs_chain.specs.Orders.{memory_error}
 use Rattle.fs_chain.specs.declared.chain_handle.ChainHandle.{ChainHandle}
 use Rattle.fs_chain_c.specs.declared.device.FsDevice.{FsDevice}
 use Rattle.fs_chain_c.specs.declared.memory.FsRegion.{FsRegion}
-use Rattle.fs_chain_c.specs.declared.status.Refusal.TheVariants.{Of}
+use Rattle.fs_chain_c.specs.declared.status.StatusRefusal.TheVariants.{Of}
 use Rattle.fs_chain_c.specs.Handles.{ProceedsOver, OnHandle, RefusesMemory, SetsHandle, SetsMemory}
 use Rattle.fs_chain_c.specs.Memory.{IsDevice, IsMemory}
 

@@ -27,8 +27,8 @@ use Rattle.fs_chain_c.proofs.BoxValues.{al, both_tt, good_ptr, owns_box}
 abbrev pub Work : RattleType
 Work = place.the_row
 
-abbrev pub Chain : RattleType
-Chain = chain.the_row
+abbrev pub BoxedChain : RattleType
+BoxedChain = chain.the_row
 
 -- its machine value, which has its type
 abbrev pub three : Ptr → Val → ℕ → Val
@@ -40,10 +40,10 @@ three_good p h n fits low = (both_tt _ _ (good_ptr p).0 fits.0, ((good_ptr p).1,
 
 module _ {M : Type 1} {𝓤 : Ura M} {𝓛 : Logic 𝓤} {K : Type 0} {Γ : List (Item 𝓤)} {G : Goal 𝓤 𝓛.H} where
   -- a handle: [what it owns; the allocator's handle]
-  pub chain_out : K → (d : Chain.Denot) (vs : List Val)
+  pub chain_out : K → (d : BoxedChain.Denot) (vs : List Val)
       → ((h : Val) → vs ≡ three d.at h d.full ∷ [] → Fits al h
       → Seq K 𝓛 (‵ (iotlb_owns d.alloc d.at d.value) ∷ ‵ ((Heap.the_row).own_val d.alloc (h ∷ [])) ∷ Γ) G)
-      → Seq K 𝓛 (‵ (Chain.own_val d vs) ∷ Γ) G
+      → Seq K 𝓛 (‵ (BoxedChain.own_val d vs) ∷ Γ) G
   chain_out t d vs k =
       fsplit t $ fpick t (λ vss. fsplit t $ feq_l t
       (λ ev. fsplit t $ feq_l t (λ ep. fsplit t $ handle_tells al t d.alloc vss.1.0 (λ h ea fits. move t (1 ∷ []) $ fsplit t $ fsplit t $
@@ -52,8 +52,8 @@ module _ {M : Type 1} {𝓤 : Ura M} {𝓛 : Logic 𝓤} {K : Type 0} {Γ : List
       (subst (λ (ws : List Val). vs ≡ vstruct (of_list (ptr_val d.at ∷ (ws ++ (vss.1.1.0 ++ [])))) ∷ []) ea
       (subst (λ (ps : List Val). vs ≡ vstruct (of_list (ps ++ (vss.1.0 ++ (vss.1.1.0 ++ [])))) ∷ []) ep ev))) fits)))))
 
-  pub chain_in : K → (d : Chain.Denot) (h : Val) → d.full < 2 ^ bits w32
-      → Step K 𝓛 (‵ (Chain.own_val d (three d.at h d.full ∷ [])) ∷ Γ) G
+  pub chain_in : K → (d : BoxedChain.Denot) (h : Val) → d.full < 2 ^ bits w32
+      → Step K 𝓛 (‵ (BoxedChain.own_val d (three d.at h d.full ∷ [])) ∷ Γ) G
       (‵ (iotlb_owns d.alloc d.at d.value) ∷ ‵ ((Heap.the_row).own_val d.alloc (h ∷ [])) ∷ Γ) G
   chain_in t d h low = step (λ s. let v : Val = three d.at h d.full in
       nothing t $ flt_i t d.full (2 ^ bits w32) low $ feq_i t (List Val) (vint w32 d.full ∷ []) (vint w32 d.full ∷ []) refl $ fjoin t $
@@ -70,7 +70,7 @@ module _ {M : Type 1} {𝓤 : Ura M} {𝓛 : Logic 𝓤} {K : Type 0} {Γ : List
   full_or_not t a p (Some x) full known none some = some x refl known
 
   -- it owns a box, or nothing, and its number says which
-  pub either : K → (d : Chain.Denot) → (d.value ≡ None → d.full ≡ 0 → Seq K 𝓛 Γ G)
+  pub either : K → (d : BoxedChain.Denot) → (d.value ≡ None → d.full ≡ 0 → Seq K 𝓛 Γ G)
       → ((x : Work.Denot) → d.value ≡ Some x → d.full ≡ 1 → Seq K 𝓛 (‵ (owns_box Work d.alloc d.at x) ∷ Γ) G)
       → Seq K 𝓛 (‵ (iotlb_owns d.alloc d.at d.value) ∷ Γ) G
   either t d none some = full_or_not t d.alloc d.at d.value d.full d.known none some

@@ -11,8 +11,8 @@ use Rattle.fs_queue.specs.Queue.{Queue, element_at, index_at}
 use Rattle.fs_queue.specs.Returning.{Store}
 use Rattle.fs_queue.specs.WalkingView.{at_position}
 use Rattle.fs_queue.specs.declared.layout.QueueLayout.{QueueLayout}
-use Rattle.fs_chain.specs.Orders.{return_error}
-use Rattle.fs_chain.specs.Pushes.{IfHasReply, PushesBy}
+use Rattle.fs_chain.specs.Orders.{push_refusal}
+use Rattle.fs_chain.specs.Pushes.{IfReplied, PushesBy}
 use Rattle.fs_chain.specs.Queues.{at_return, in_flight, is_laid_out, is_in_flight_of}
 use Rattle.fs_chain.specs.declared.error.ChainError.TheVariants as error
 use Rattle.fs_chain.specs.declared.pushing.PushStores.{PushStores}
@@ -112,9 +112,9 @@ AreThere k s =
     (s.used.head.address ≡ element_at (at_position k.layout k.next_used))
     × (s.used.index.address ≡ index_at (at_position k.layout k.next_used))
 
-pushed_there : (st : state.ChainState) (k : QueueState) (len : ℕ) (s : PushStores) → return_error st k len ≡ None
-    → IfHasReply st (λ out reply. PushesBy k out reply s) → AreThere k s
-pushed_there (at.HasReply out reply) k len s none by =
+pushed_there : (st : state.ChainState) (k : QueueState) (len : ℕ) (s : PushStores) → push_refusal st k len ≡ None
+    → IfReplied st (λ out reply. PushesBy k out reply s) → AreThere k s
+pushed_there (at.Replied out reply) k len s none by =
     let out_is = out_tests (is_in_flight_of k out) k.pushing _ none in
     let laid = (and_parts (not (in_flight k == 0) && k.reset_count == out.pop_id.reset_count) (is_laid_out k.layout out.course.layout)
     out_is).1 in
@@ -123,14 +123,14 @@ pushed_there (at.HasReply out reply) k len s none by =
 pushed_there _ k len s none by = absurd (cc)
 
 pub pushes : PushReportsAddresses
-pushes b b' q q' front front' reported (inl none) = absurd (no_queue q none.1)
-pushes b b' q q' front front' reported (inr is) = elim is.3 [
+pushes b b' q q' front front' filled (inl none) = absurd (no_queue q none.1)
+pushes b b' q q' front front' filled (inr is) = elim is.3 [
   | inl done ↦
       let k = is.1 in
       let so = done.1 in
       let s = so.0 in
       let there = pushed_there b.state k (length front) s done.0 so.2 in
-      let mapped : (reported.element_guest ≡ s.used.head.address) × (reported.index_guest ≡ s.used.index.address) =
+      let mapped : (filled.element_guest ≡ s.used.head.address) × (filled.index_guest ≡ s.used.index.address) =
       elim so.4 [ inl here ↦ (here.1.8, here.1.9) | inr lost ↦ absurd (cc lost.0) ] in
       (k, is.2, mapped.0 ∙ there.0, mapped.1 ∙ there.1)
   | inr why ↦ absurd (no_error why.0 why.3)

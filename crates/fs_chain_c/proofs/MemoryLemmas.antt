@@ -18,8 +18,8 @@ use Rattle.fs_chain_c.specs.Memory.{HasNoRegion, HaveFault, IsMemory, IsNoMemory
 use Rattle.fs_chain_c.specs.Memory.{region_of}
 use Rattle.fs_chain_c.specs.Statuses.{region_status}
 use Rattle.fs_chain_c.specs.declared.memory.FsRegion.{FsRegion}
-use Rattle.fs_chain_c.specs.declared.status.Refusal.{Refusal}
-use Rattle.fs_chain_c.specs.declared.status.Refusal.TheVariants.{Of, Invalid}
+use Rattle.fs_chain_c.specs.declared.status.StatusRefusal.{StatusRefusal}
+use Rattle.fs_chain_c.specs.declared.status.StatusRefusal.TheVariants.{Of, Invalid}
 use Rattle.fs_chain_c.proofs.RecordLemmas.{parted}
 
 -- ---- neighbours
@@ -112,12 +112,12 @@ module _ (regions sorted : List FsRegion) (same : IsPermutation regions sorted) 
       )
 
   -- the memory of the regions in ascending order is one of those in any
-  pub a_memory : (r : Result (List Region) Refusal) → IfOk r (λ memory. memory ≡ map region_of sorted) → IfOk r StandApart →
+  pub a_memory : (r : Result (List Region) StatusRefusal) → IfOk r (λ memory. memory ≡ map region_of sorted) → IfOk r StandApart →
       IfOk r (IsMemory regions)
   a_memory (Ok m) is apart = (few, sorted, same, All-permutation IsRegion regions sorted same are, is, apart)
   a_memory (Err why) is apart = tt
 
-  none_of : (why : Refusal) → IsNoSortedMemory sorted why → IsNoMemory regions why
+  none_of : (why : StatusRefusal) → IsNoSortedMemory sorted why → IsNoMemory regions why
   none_of (Invalid status) why =
       let len = length_permutation regions sorted same in
       let some = why.0.0 in
@@ -126,7 +126,7 @@ module _ (regions sorted : List FsRegion) (same : IsPermutation regions sorted) 
   none_of (Of _) why = why
 
   -- a refusal of the regions in ascending order is one of those in any
-  pub no_memory : (r : Result (List Region) Refusal) → IfErr r (IsNoSortedMemory sorted) → IfErr r (IsNoMemory regions)
+  pub no_memory : (r : Result (List Region) StatusRefusal) → IfErr r (IsNoSortedMemory sorted) → IfErr r (IsNoMemory regions)
   no_memory (Ok m) why = why
   no_memory (Err e) why = none_of e why
 

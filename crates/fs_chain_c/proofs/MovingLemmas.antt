@@ -19,14 +19,14 @@ use Rattle.fs_chain.specs.declared.error.ChainError.TheVariants as error
 use Rattle.fs_chain.specs.declared.queue.QueueState.{QueueState}
 use Rattle.fs_chain_c.specs.declared.device.FsDevice.{FsDevice}
 use Rattle.fs_chain_c.specs.declared.queue.FsQueue.{FsQueue}
-use Rattle.fs_chain_c.specs.Moving.{AreQueueStates, HasItsWidths, HasNoneInFlight, HasValidMaximum, MovesByRecord, RestoresARecord}
+use Rattle.fs_chain_c.specs.Moving.{AreQueueStates, HasItsWidths, HasNoChain, HasFittingMaximum, MovesByRecord, RestoresARecord}
 use Rattle.fs_chain_c.specs.Moving.{SavesARecord, recorded}
 use Rattle.fs_chain_c.specs.Queues.{IsQueue, IsQueueState, stop_number}
 use Rattle.fs_chain_c.specs.Records.{HasNoneOut, Restored, HasRecord, TooFewQueues, NoDevice, NoRecord, ReadsSo, RestoreOutcome, SavesSo}
 use Rattle.fs_chain_c.specs.Records.{UnfitQueues, bytes_of, numbers_over, queue_of, read_status, restored_over, saved_status}
 use Rattle.fs_chain_c.specs.Statuses.{device_status}
-use Rattle.fs_chain_c.specs.declared.status.Refusal.{Refusal}
-use Rattle.fs_chain_c.specs.declared.status.Refusal.TheVariants.{Of, Invalid}
+use Rattle.fs_chain_c.specs.declared.status.StatusRefusal.{StatusRefusal}
+use Rattle.fs_chain_c.specs.declared.status.StatusRefusal.TheVariants.{Of, Invalid}
 use Rattle.fs_chain_c.proofs.CalledLemmas.{no_error, no_queue}
 
 -- ---- a queue's numbers, and the core's queue
@@ -56,7 +56,7 @@ all_recorded _ _ are = absurd are
 no_device : (status : ℕ) → 0 ≡ status → status ≡ device_status → ⊥
 no_device status is device = cc
 
-saved_so : (d : FsDevice) (qs : List FsQueue) (buffer buffer' : List ℕ) (len : ℕ) (how : Option Refusal) → 0 ≡ saved_status how
+saved_so : (d : FsDevice) (qs : List FsQueue) (buffer buffer' : List ℕ) (len : ℕ) (how : Option StatusRefusal) → 0 ≡ saved_status how
     → SavesSo d qs buffer how len buffer' → SavesSo d qs buffer None len buffer'
 saved_so d qs buffer buffer' len None is so = so
 saved_so d qs buffer buffer' len (Some (Of e)) is so = absurd (no_error e is)
@@ -69,7 +69,7 @@ one_position : (p r : ℕ) → p < 2 ^ 16 → r < 2 ^ 16 → (p + (2 ^ 16 - r)) 
 one_position p r fp fr none = omega arith
 
 all_even : (qs : List FsQueue) (ks : List QueueState) → AllByRecursion HasItsWidths qs → All HasNoneOut qs → AreQueueStates qs ks →
-    AllByRecursion HasNoneInFlight ks
+    AllByRecursion HasNoChain ks
 all_even [] [] bits none are = tt
 all_even (q ∷ qs) (k ∷ ks) bits none are =
     let at = one_position q.next_avail q.next_used bits.0.1 bits.0.2 (All-head HasNoneOut q qs none) in
@@ -117,12 +117,12 @@ saves d qs ks buffer buffer' len saved bits are =
 no_record : (n : ℕ) → 0 ≡ 80 + n → ⊥
 no_record n is = omega (arith, is)
 
-abbrev ReadSo : FsDevice → List FsQueue → (saved : List ℕ) → (count : ℕ) → FsDevice → List FsQueue → Type 0
-ReadSo d queues saved count d' queues' =
+abbrev ReadsBack : FsDevice → List FsQueue → (saved : List ℕ) → (count : ℕ) → FsDevice → List FsQueue → Type 0
+ReadsBack d queues saved count d' queues' =
     (options : ℕ) × (qs : List Queue) × ReadsSo d queues saved (Restored options qs) count d' queues'
 
 read_so : (d : FsDevice) (queues : List FsQueue) (saved : List ℕ) (how : RestoreOutcome) (count : ℕ) (d' : FsDevice)
-    (queues' : List FsQueue) → 0 ≡ read_status how → ReadsSo d queues saved how count d' queues' → ReadSo d queues saved count d' queues'
+    (queues' : List FsQueue) → 0 ≡ read_status how → ReadsSo d queues saved how count d' queues' → ReadsBack d queues saved count d' queues'
 read_so d queues saved (Restored options qs) count d' queues' is so = (options, qs, so)
 read_so d queues saved (TooFewQueues options qs) count d' queues' is so = absurd (no_error error.ShortBuffer is)
 read_so d queues saved (NoRecord e) count d' queues' is so = absurd (no_record (restore_error_number e) is)
@@ -147,7 +147,7 @@ none_left : (n : ℕ) → suc n ≤ 0 → ⊥
 none_left n few = omega (arith, few)
 
 abbrev GoOn : List QueueState → List Queue → Type 0
-GoOn ks qs = (map recorded ks ≡ qs) × AllByRecursion HasNoneInFlight ks × AllByRecursion HasValidMaximum ks
+GoOn ks qs = (map recorded ks ≡ qs) × AllByRecursion HasNoChain ks × AllByRecursion HasFittingMaximum ks
 
 go_on : (olds : List FsQueue) (qs : List Queue) (ks : List QueueState) → length qs ≤ length olds → All IsSavedQueue qs
     → AreQueueStates (take (length qs) (restored_over olds qs)) ks → GoOn ks qs
@@ -190,13 +190,13 @@ restores d d' queues queues' ks saved count restored are =
     subst (λ (l : List FsQueue). AreQueueStates (take (length qs) l) ks) read.5
     (subst (λ (n : ℕ). AreQueueStates (take n queues') ks) read.2 are) in
     let go = go_on queues qs ks few is.2.3 are' in
-    let as_reported : IsRecord bytes v d'.options qs =
+    let as_recorded : IsRecord bytes v d'.options qs =
     subst (λ (n : ℕ). IsRecord bytes v n qs) (sym (ap (λ (x : FsDevice). x.options) read.4)) is in (
       bytes,
       has.1,
       v,
       has.2,
-      subst (λ (l : List Queue). IsRecord bytes v d'.options l) (sym go.0) as_reported,
+      subst (λ (l : List Queue). IsRecord bytes v d'.options l) (sym go.0) as_recorded,
       go.1,
       go.2,
     )

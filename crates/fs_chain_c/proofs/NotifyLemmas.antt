@@ -11,21 +11,21 @@ use Rattle.fs_notify.proofs.Returns as givers
 use Rattle.fs_notify.proofs.Wishes as takers
 use Rattle.fs_notify.specs.Takers.{ShowsWish, ways_of}
 use Rattle.fs_chain_c.specs.declared.notifications.FsStore.{FsStore}
-use Rattle.fs_chain_c.specs.Notifications.{ReportsStore}
+use Rattle.fs_chain_c.specs.Notifications.{FillsStore}
 use Rattle.fs_chain_c.specs.Notifying.{NotifyIsACheck, StoresAWish}
 use Rattle.fs_chain_c.specs.Queues.{flag}
 use Rattle.fs_chain_c.specs.Pushing.{StandsHere}
 use Rattle.fs_chain_c.proofs.CalledLemmas.{no_error, no_queue}
 
 -- a store that is told without an error
-pub reported_store : (regions : Mapped) (store : Store) (reported : FsStore) → ReportsStore regions (Some store) reported 0
-    → StandsHere regions Write store.address 2 reported.at × (store.bytes ≡ to_le_bytes w16 reported.value) × (reported.len ≡ 2)
-reported_store regions store reported (inl done) = (done.1, done.2, done.3)
-reported_store regions store reported (inr lost) = absurd (cc lost.0)
+pub filled_store : (regions : Mapped) (store : Store) (filled : FsStore) → FillsStore regions (Some store) filled 0
+    → StandsHere regions Write store.address 2 filled.at × (store.bytes ≡ to_le_bytes w16 filled.value) × (filled.len ≡ 2)
+filled_store regions store filled (inl done) = (done.1, done.2, done.3)
+filled_store regions store filled (inr lost) = absurd (cc lost.0)
 
 pub wishes : StoresAWish
-wishes b q reported (inl none) = absurd (no_queue q none.1)
-wishes b q reported (inr is) = (
+wishes b q filled (inl none) = absurd (no_queue q none.1)
+wishes b q filled (inr is) = (
   is.1,
   is.2,
   λ s counted of walker.
@@ -33,8 +33,8 @@ wishes b q reported (inr is) = (
       let store = asked.0 in
       let end : ThreadedQueue = after_act (ways_of is.1) (after_act (ways_of is.1) s Wishes) WishIsThere in
       let stored =
-      reported_store b.regions store reported (subst (λ (x : Option Store). ReportsStore b.regions x reported 0) asked.1 is.3) in (
-        subst (λ (a : ℕ). StandsHere b.regions Write a 2 reported.at) asked.2 stored.0,
+      filled_store b.regions store filled (subst (λ (x : Option Store). FillsStore b.regions x filled 0) asked.1 is.3) in (
+        subst (λ (a : ℕ). StandsHere b.regions Write a 2 filled.at) asked.2 stored.0,
         stored.2,
         subst (λ (bytes : List ℕ). ShowsWish is.1 bytes end.event end.muted) stored.1 asked.5,
         asked.6,

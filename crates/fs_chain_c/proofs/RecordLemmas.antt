@@ -10,7 +10,7 @@ use Rattle.fs_record.specs.Record.{Second, end_bytes, head_of, queue_bytes, reco
 use Rattle.fs_chain_c.specs.declared.queue.FsQueue.{FsQueue}
 use Rattle.fs_chain_c.specs.Queues.{IsQueue}
 use Rattle.fs_chain_c.specs.Records.{HasNoneOut, RefusesToSave, RefusesQueues}
-use Rattle.fs_chain_c.specs.declared.status.Refusal.{Refusal}
+use Rattle.fs_chain_c.specs.declared.status.StatusRefusal.{StatusRefusal}
 
 -- the numbers that lie where no queue does
 abbrev pub no_numbers : FsQueue
@@ -76,7 +76,8 @@ parted {A} (y ∷ xs) zero x within is = ap (λ (z : A). z ∷ xs) (sym is)
 parted {A} (y ∷ xs) (suc k) x within is = ap (λ (l : List A). y ∷ l) (parted xs k x (omega (arith, within)) is)
 
 -- one that is refused is the first, if those before it aren't
-pub first_refused : (qs : List FsQueue) (k : ℕ) (q : FsQueue) (why : Refusal) → k < length qs → q ≡ get_or qs k q → All IsQueue (take k qs)
+pub first_refused : (qs : List FsQueue) (k : ℕ) (q : FsQueue) (why : StatusRefusal) → k < length qs → q ≡ get_or qs k q →
+    All IsQueue (take k qs)
     → All HasNoneOut (take k qs)
     → RefusesToSave q why → RefusesQueues qs why
 first_refused qs k q why within is are none_out refused = record {

@@ -117,8 +117,8 @@ abbrev pub data_len : (size room : ℕ) → ℕ
 data_len size room = min size (room - 16)
 
 -- the attributes that SETATTR sets (struct fuse_setattr_in)
-abbrev pub attr_reported : SetattrIn → FsAttr
-attr_reported a = record no_attr {
+abbrev pub filled_attr : SetattrIn → FsAttr
+filled_attr a = record no_attr {
   size = a.size;
   atime = a.atime;
   mtime = a.mtime;
@@ -165,42 +165,42 @@ is_of_open_file _ = false
 
 -- the fields of a call, by its request's opcode and the length of the reply buffer (room). A reply's data is
 -- in the reply buffer behind the reply's header of 16 bytes. A field that the call doesn't have is 0
-abbrev pub reported_call : (opcode room : ℕ) → FileCall → FsCall
-reported_call opcode room (value.Init capable) =
+abbrev pub fill_call : (opcode room : ℕ) → FileCall → FsCall
+fill_call opcode room (value.Init capable) =
     record (made op.Init awaits.Init) { options = capable.0 }
-reported_call opcode room value.Destroy = made op.Destroy awaits.Done
-reported_call opcode room (value.Lookup context node name) =
+fill_call opcode room value.Destroy = made op.Destroy awaits.Done
+fill_call opcode room (value.Lookup context node name) =
     record (made_by op.Lookup awaits.Entry context node) { name = span name }
-reported_call opcode room (value.Forget context node count) =
+fill_call opcode room (value.Forget context node count) =
     record (made_by op.Forget awaits.None context node) { count = count }
-reported_call opcode room (value.BatchForget context counts) =
+fill_call opcode room (value.BatchForget context counts) =
     record (made_by op.BatchForget awaits.None context 0) {
       count = length counts.bytes.now / 16;
       value = span counts;
     }
-reported_call opcode room (value.Getattr context node handle) =
+fill_call opcode room (value.Getattr context node handle) =
     record (made_by op.Getattr awaits.Attr context node) {
       has_handle = flag (is_some handle);
       handle = unwrap_or handle 0;
     }
-reported_call opcode room (value.Setattr context node attr handle valid) =
+fill_call opcode room (value.Setattr context node attr handle valid) =
     record (made_by op.Setattr awaits.Attr context node) {
       has_handle = flag (is_some handle);
       handle = unwrap_or handle 0;
       valid = valid.0;
       owner = attr.lock_owner;
-      attr = attr_reported attr;
+      attr = filled_attr attr;
     }
-reported_call opcode room (value.Readlink context node) =
+fill_call opcode room (value.Readlink context node) =
     record (made_by op.Readlink awaits.Data context node) { data_at = 16; data_len = room - 16 }
-reported_call opcode room (value.Symlink context link node name extra) =
+fill_call opcode room (value.Symlink context link node name extra) =
     record (made_by op.Symlink awaits.Entry context node) {
       name = span name;
       value = span link;
       has_group = flag (is_some extra.sup_gid);
       group = unwrap_or extra.sup_gid 0;
     }
-reported_call opcode room (value.Mknod context node name mode rdev umask extra) =
+fill_call opcode room (value.Mknod context node name mode rdev umask extra) =
     record (made_by op.Mknod awaits.Entry context node) {
       name = span name;
       mode = mode;
@@ -209,7 +209,7 @@ reported_call opcode room (value.Mknod context node name mode rdev umask extra) 
       has_group = flag (is_some extra.sup_gid);
       group = unwrap_or extra.sup_gid 0;
     }
-reported_call opcode room (value.Mkdir context node name mode umask extra) =
+fill_call opcode room (value.Mkdir context node name mode umask extra) =
     record (made_by op.Mkdir awaits.Entry context node) {
       name = span name;
       mode = mode;
@@ -217,22 +217,22 @@ reported_call opcode room (value.Mkdir context node name mode umask extra) =
       has_group = flag (is_some extra.sup_gid);
       group = unwrap_or extra.sup_gid 0;
     }
-reported_call opcode room (value.Unlink context node name) =
+fill_call opcode room (value.Unlink context node name) =
     record (made_by op.Unlink awaits.Done context node) { name = span name }
-reported_call opcode room (value.Rmdir context node name) =
+fill_call opcode room (value.Rmdir context node name) =
     record (made_by op.Rmdir awaits.Done context node) { name = span name }
-reported_call opcode room (value.Rename context node old new_dir new flags) =
+fill_call opcode room (value.Rename context node old new_dir new flags) =
     record (made_by op.Rename awaits.Done context node) {
       name = span old;
       name2 = span new;
       node2 = new_dir;
       flags = flags;
     }
-reported_call opcode room (value.Link context old_node node name) =
+fill_call opcode room (value.Link context old_node node name) =
     record (made_by op.Link awaits.Entry context old_node) { name = span name; node2 = node }
-reported_call opcode room (value.Open context node kill flags) =
+fill_call opcode room (value.Open context node kill flags) =
     record (made_by op.Open awaits.Open context node) { flags = flags; kill_priv = flag kill }
-reported_call opcode room (value.Read context node handle most size offset owner flags) =
+fill_call opcode room (value.Read context node handle most size offset owner flags) =
     record (made_by op.Read awaits.Data context node) {
       handle = handle;
       offset = offset;
@@ -243,7 +243,7 @@ reported_call opcode room (value.Read context node handle most size offset owner
       has_owner = flag (is_some owner);
       owner = unwrap_or owner 0;
     }
-reported_call opcode room (value.Write context node handle len size offset owner delayed kill flags) =
+fill_call opcode room (value.Write context node handle len size offset owner delayed kill flags) =
     record (made_by op.Write awaits.Write context node) {
       handle = handle;
       offset = offset;
@@ -256,8 +256,8 @@ reported_call opcode room (value.Write context node handle len size offset owner
       delayed = flag delayed;
       kill_priv = flag kill;
     }
-reported_call opcode room (value.Statfs context node) = made_by op.Statfs awaits.Statfs context node
-reported_call opcode room (value.Release context node flags handle flush unlock owner) =
+fill_call opcode room (value.Statfs context node) = made_by op.Statfs awaits.Statfs context node
+fill_call opcode room (value.Release context node flags handle flush unlock owner) =
     record (made_by op.Release awaits.Done context node) {
       handle = handle;
       flags = flags;
@@ -266,18 +266,18 @@ reported_call opcode room (value.Release context node flags handle flush unlock 
       has_owner = flag (is_some owner);
       owner = unwrap_or owner 0;
     }
-reported_call opcode room (value.Fsync context node data_only handle) =
+fill_call opcode room (value.Fsync context node data_only handle) =
     record (made_by op.Fsync awaits.Done context node) { handle = handle; data_only = flag data_only }
-reported_call opcode room (value.Fsyncdir context node data_only handle) =
+fill_call opcode room (value.Fsyncdir context node data_only handle) =
     record (made_by op.Fsyncdir awaits.Done context node) { handle = handle; data_only = flag data_only }
-reported_call opcode room (value.Setxattr context node name value flags extra) =
+fill_call opcode room (value.Setxattr context node name value flags extra) =
     record (made_by op.Setxattr awaits.Done context node) {
       name = span name;
       value = span value;
       flags = flags;
       setxattr_flags = extra.0;
     }
-reported_call opcode room (value.Getxattr context node name size) =
+fill_call opcode room (value.Getxattr context node name size) =
     record (made_by op.Getxattr awaits.Data context node) {
       answer = answer_number (sized size);
       name = span name;
@@ -285,20 +285,20 @@ reported_call opcode room (value.Getxattr context node name size) =
       data_at = 16;
       data_len = data_len size room;
     }
-reported_call opcode room (value.Listxattr context node size) =
+fill_call opcode room (value.Listxattr context node size) =
     record (made_by op.Listxattr awaits.Data context node) {
       answer = answer_number (sized size);
       size = size;
       data_at = 16;
       data_len = data_len size room;
     }
-reported_call opcode room (value.Removexattr context node name) =
+fill_call opcode room (value.Removexattr context node name) =
     record (made_by op.Removexattr awaits.Done context node) { name = span name }
-reported_call opcode room (value.Flush context node handle owner) =
+fill_call opcode room (value.Flush context node handle owner) =
     record (made_by op.Flush awaits.Done context node) { handle = handle; owner = owner }
-reported_call opcode room (value.Opendir context node flags) =
+fill_call opcode room (value.Opendir context node flags) =
     record (made_by op.Opendir awaits.Open context node) { flags = flags }
-reported_call opcode room (value.Readdir context node handle size offset) =
+fill_call opcode room (value.Readdir context node handle size offset) =
     record (made_by op.Readdir awaits.Entries context node) {
       kind = call_number (listing opcode);
       handle = handle;
@@ -307,11 +307,11 @@ reported_call opcode room (value.Readdir context node handle size offset) =
       data_at = 16;
       data_len = data_len size room;
     }
-reported_call opcode room (value.Releasedir context node flags handle) =
+fill_call opcode room (value.Releasedir context node flags handle) =
     record (made_by op.Releasedir awaits.Done context node) { handle = handle; flags = flags }
-reported_call opcode room (value.Access context node mask) =
+fill_call opcode room (value.Access context node mask) =
     record (made_by op.Access awaits.Done context node) { mode = mask }
-reported_call opcode room (value.Create context node name mode kill flags umask extra) =
+fill_call opcode room (value.Create context node name mode kill flags umask extra) =
     record (made_by op.Create awaits.Create context node) {
       name = span name;
       mode = mode;
@@ -321,16 +321,16 @@ reported_call opcode room (value.Create context node name mode kill flags umask 
       has_group = flag (is_some extra.sup_gid);
       group = unwrap_or extra.sup_gid 0;
     }
-reported_call opcode room (value.Fallocate context node handle mode offset len) =
+fill_call opcode room (value.Fallocate context node handle mode offset len) =
     record (made_by op.Fallocate awaits.Done context node) {
       handle = handle;
       mode = mode;
       offset = offset;
       size = len;
     }
-reported_call opcode room (value.Lseek context node handle offset whence) =
+fill_call opcode room (value.Lseek context node handle offset whence) =
     record (made_by op.Lseek awaits.Lseek context node) { handle = handle; offset = offset; flags = whence }
-reported_call opcode room
+fill_call opcode room
     (value.CopyFileRange context node handle offset node_out handle_out offset_out len flags) =
     record (made_by op.CopyFileRange awaits.Write context node) {
       handle = handle;
@@ -340,15 +340,15 @@ reported_call opcode room
       offset2 = offset_out;
       size = len;
     }
-reported_call opcode room (value.Syncfs context node) = made_by op.Syncfs awaits.Done context node
-reported_call opcode room value.Getlk = empty_call
-reported_call opcode room value.Setlk = empty_call
-reported_call opcode room value.Setlkw = empty_call
-reported_call opcode room value.Bmap = empty_call
-reported_call opcode room value.Ioctl = empty_call
-reported_call opcode room value.Poll = empty_call
-reported_call opcode room value.NotifyReply = empty_call
-reported_call opcode room value.TmpFile = empty_call
+fill_call opcode room (value.Syncfs context node) = made_by op.Syncfs awaits.Done context node
+fill_call opcode room value.Getlk = empty_call
+fill_call opcode room value.Setlk = empty_call
+fill_call opcode room value.Setlkw = empty_call
+fill_call opcode room value.Bmap = empty_call
+fill_call opcode room value.Ioctl = empty_call
+fill_call opcode room value.Poll = empty_call
+fill_call opcode room value.NotifyReply = empty_call
+fill_call opcode room value.TmpFile = empty_call
 
 -- the opcode of a request, and its unique number (struct fuse_in_header); 0 if the request is shorter than 16
 -- bytes
@@ -382,4 +382,4 @@ labelled (Some l) call = record call { has_label = 1; label_name = span l.name; 
 -- the fields of a call, by its request and the length of the reply buffer
 abbrev pub call_fields : (request : List ℕ) → (room : ℕ) → FileCall → FsCall
 call_fields request room call =
-    labelled (label_in call) (numbered request (reported_call (opcode_in request) room call))
+    labelled (label_in call) (numbered request (fill_call (opcode_in request) room call))

@@ -16,7 +16,7 @@ use Rattle.fs_chain.specs.declared.decoding.Decoded.{Decoded}
 use Rattle.fs_chain.specs.declared.decoding.Decoded.TheVariants as reports
 use Rattle.fs_chain.specs.declared.error.ChainError.{ChainError}
 use Rattle.fs_chain.specs.declared.chain_handle.ChainHandle.{ChainHandle}
-use Rattle.fs_chain.specs.Answers.{CanBeGiven, IfWaits, IsGiven, IsNotTaken, IsWaiting}
+use Rattle.fs_chain.specs.Answers.{CanBeGiven, IfDecoded, IsGiven, IsNotTaken, IsWaiting}
 use Rattle.fs_chain.specs.Decoding.{IfUndecoded, ReportStandsIn, ReportsMeaning, wanted_after, wanted_by}
 use Rattle.fs_chain.specs.Holds as holds
 use Rattle.fs_chain.specs.Numbers.{chain_error_number}
@@ -33,15 +33,15 @@ use Rattle.fs_chain_c.specs.Statuses.{device_status}
 -- the outcome of an answer with a ticket, in the session in which the `ChainHandle`'s request was decoded:
 -- the reply, or an error. On an error nothing changes
 pub record AnswersTicket (w : ChainHandle) (ticket : ℕ) (a : FileAnswer)
-    (reported : Result Replied ChainError)
+    (result : Result Replied ChainError)
     (w' : ChainHandle) : Type 0 where
-  pub given : IfOk reported (λ r. IfWaits w.state (λ out waiting.
+  pub given : IfOk result (λ r. IfDecoded w.state (λ out waiting.
       IsGiven (setting w.session.page_size w.session.options.0 waiting.room) waiting a out
       w'.session.options.0 r w'.state))
-  pub mine : OnOk reported (w.serial ≡ ticket)
-  pub taken : OnOk reported (IsWaiting w.state × IfWaits w.state (λ out waiting. CanBeGiven waiting a))
-  pub refused : IfErr reported (λ e. IsNotTaken w ticket a e)
-  pub same : OnErr reported (w' ≡ w)
+  pub mine : OnOk result (w.ticket ≡ ticket)
+  pub taken : OnOk result (IsWaiting w.state × IfDecoded w.state (λ out waiting. CanBeGiven waiting a))
+  pub refused : IfErr result (λ e. IsNotTaken w ticket a e)
+  pub same : OnErr result (w' ≡ w)
   pub page_size : w'.session.page_size ≡ w.session.page_size
   pub stays : IsAllBut w w' × (w'.descriptors ≡ w.descriptors) × (w'.part ≡ w.part)
 
@@ -53,8 +53,8 @@ replied_status (Err e) = chain_error_number e
 -- a `ChainHandle`'s call is answered, with this status
 abbrev pub AnswersHandle : ChainHandle → (ticket : ℕ) → FileAnswer → (status : ℕ) → ChainHandle → Type 0
 AnswersHandle b ticket a status b' =
-    (reported : Result Replied ChainError) × AnswersTicket b ticket a reported b'
-    × (status ≡ replied_status reported)
+    (result : Result Replied ChainError) × AnswersTicket b ticket a result b'
+    × (status ≡ replied_status result)
 
 -- ---- a request
 
@@ -75,7 +75,7 @@ answer_unasked _ = None
 -- such a call is answered at once, with this status; another call waits for C's answer
 abbrev pub AnswersAtOnce : ChainHandle → Option FileAnswer → (status : ℕ) → ChainHandle → Type 0
 AnswersAtOnce b None status b' = (status ≡ 0) × (b' ≡ b)
-AnswersAtOnce b (Some a) status b' = AnswersHandle b b.serial a status b'
+AnswersAtOnce b (Some a) status b' = AnswersHandle b b.ticket a status b'
 
 -- the fault of a call that was answered at once: `EncodeMessage`, if the reply buffer is too small
 abbrev pub fault_after : (status : ℕ) → ℕ
@@ -93,7 +93,7 @@ pub record Decodes (w : ChainHandle) (s : Session) (request : List ℕ) (made : 
       → ReportsMeaning (setting s.page_size s.options.0 out.room_len) (meaning s.options.0 all out.room_len)
       (drop 80 all) out made w'.state)
   pub wanted : IfUndecoded w.state (λ out. wanted_by made ≡ wanted_after request out.request_len)
-  pub step : holds.Decodes w w' s request made
+  pub step : holds.DecodesInRun w w' s request made
   pub session : w'.session ≡ s
   pub stays : IsAllBut w w' × (w'.descriptors ≡ w.descriptors) × (w'.part ≡ w.part)
 
@@ -108,19 +108,19 @@ IsDeviceSession d s = (s.page_size ≡ d.page_size) × (s.options.0 ≡ bit_and 
 
 -- the result of decoding, as C gets it: the call, or the fault of its reply. If more bytes are needed, it is
 -- their count, with 34; if there is no call, nothing; else the fault
-abbrev pub ReportsAsked :
+abbrev pub FillsCall :
     ChainHandle → (request : List ℕ) → Decoded → FsCall → (status : ℕ) → ChainHandle → Type 0
-ReportsAsked b request (reports.Call made) call status b' =
+FillsCall b request (reports.Call made) call status b' =
     (status ≡ 0)
     × (answered : ℕ) × AnswersAtOnce b (answer_unasked made) answered b'
     × (call ≡ record (call_fields request (room_len b.state) made) {
       fault = fault_after answered;
     })
-ReportsAsked b request (reports.More n) call status b' =
+FillsCall b request (reports.More n) call status b' =
     (status ≡ 34) × (call ≡ numbered request (record empty_call { needed = low n })) × (b' ≡ b)
-ReportsAsked b request reports.Nothing call status b' =
+FillsCall b request reports.Nothing call status b' =
     (status ≡ 0) × (call ≡ numbered request empty_call) × (b' ≡ b)
-ReportsAsked b request (reports.Fault e) call status b' =
+FillsCall b request (reports.Fault e) call status b' =
     (status ≡ 0) × (call ≡ numbered request (record empty_call { fault = error_number e })) × (b' ≡ b)
 
 -- a request is decoded in the device's session, and the call has the ticket of the chain. Its names, values,
@@ -133,8 +133,8 @@ DecodesSo b d request call status b' =
     × (asked : ChainHandle) × (made : Decoded)
     × Decodes b s request made asked
     × (fields : FsCall)
-    × ReportsAsked asked request made fields status b'
-    × (call ≡ record fields { ticket = b.serial })
+    × FillsCall asked request made fields status b'
+    × (call ≡ record fields { ticket = b.ticket })
     × ReportStandsIn s.options.0 request made
 
 -- a `ChainHandle` decodes the first bytes of a request; or the numbers aren't a device's, which is the status

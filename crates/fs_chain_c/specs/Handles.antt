@@ -16,8 +16,8 @@ use Rattle.fs_chain_c.specs.declared.device.FsDevice.{FsDevice}
 use Rattle.fs_chain_c.specs.declared.handle.FsChain.{FsChain}
 use Rattle.fs_chain_c.specs.declared.memory.FsRegion.{FsRegion}
 use Rattle.fs_chain_c.specs.declared.queue.FsQueue.{FsQueue}
-use Rattle.fs_chain_c.specs.declared.status.Refusal.{Refusal}
-use Rattle.fs_chain_c.specs.declared.status.Refusal.TheVariants.{Of, Invalid}
+use Rattle.fs_chain_c.specs.declared.status.StatusRefusal.{StatusRefusal}
+use Rattle.fs_chain_c.specs.declared.status.StatusRefusal.TheVariants.{Of, Invalid}
 use Rattle.fs_chain_c.specs.declared.pushing.FsStores.{FsStores}
 use Rattle.fs_chain_c.specs.declared.popping.FsPopResult.{FsPopResult}
 use Rattle.fs_chain_c.specs.declared.windows.FsWindow.{FsWindow}
@@ -53,7 +53,7 @@ IsNewHandle b =
     × (b.part.items ≡ [])
     × (b.session.page_size ≡ 4096)
     × (b.session.options.0 ≡ 0)
-    × (b.serial ≡ 1)
+    × (b.ticket ≡ 1)
     × (b.list_len ≡ 0)
 
 -- the next pops use these regions, with the device's limit, and no table translates their addresses
@@ -67,12 +67,12 @@ ProceedsOver b d regions b' =
     × (b'.state ≡ b.state)
     × (b'.part ≡ b.part)
     × (b'.session ≡ b.session)
-    × (b'.serial ≡ b.serial)
+    × (b'.ticket ≡ b.ticket)
     × (b'.list_len ≡ b.list_len)
 
 -- why the memory isn't set, in this order: the numbers aren't a device's; the regions aren't a memory; a pop
 -- is under way or a chain in flight
-abbrev pub RefusesMemory : ChainHandle → FsDevice → List FsRegion → Refusal → Type 0
+abbrev pub RefusesMemory : ChainHandle → FsDevice → List FsRegion → StatusRefusal → Type 0
 RefusesMemory b d regions why =
     ((why ≡ Invalid device_status) × (IsDevice d → ⊥))
     ⊎ (IsDevice d × IsNoMemory regions why)
@@ -86,11 +86,11 @@ RefusesMemory b d regions why =
 abbrev pub SetsHandle : ChainHandle → FsDevice → List FsRegion → (status : ℕ) → ChainHandle → Type 0
 SetsHandle b d regions status b' =
     ((status ≡ 0) × ProceedsOver b d regions b')
-    ⊎ ((why : Refusal) × (status ≡ refusal_status why) × RefusesMemory b d regions why × (b' ≡ b))
+    ⊎ ((why : StatusRefusal) × (status ≡ refusal_status why) × RefusesMemory b d regions why × (b' ≡ b))
 
 -- why no `ChainHandle` is made: the numbers aren't a device's; the regions aren't a memory; or they are, and
 -- the allocation of the `ChainHandle` failed
-abbrev pub RefusesNew : FsDevice → List FsRegion → Refusal → Type 0
+abbrev pub RefusesNew : FsDevice → List FsRegion → StatusRefusal → Type 0
 RefusesNew d regions why =
     ((why ≡ Invalid device_status) × (IsDevice d → ⊥))
     ⊎ (IsDevice d × IsNoMemory regions why)
@@ -102,7 +102,7 @@ RefusesNew d regions why =
 -- a new `ChainHandle` with its memory, or none is made
 abbrev pub MakesHandle : FsDevice → List FsRegion → (status : ℕ) → Option ChainHandle → Type 0
 MakesHandle d regions status None =
-    (why : Refusal) × (status ≡ refusal_status why) × RefusesNew d regions why
+    (why : StatusRefusal) × (status ≡ refusal_status why) × RefusesNew d regions why
 MakesHandle d regions status (Some b') =
     (b : ChainHandle) × IsNewHandle b × (status ≡ 0) × ProceedsOver b d regions b'
 
@@ -119,7 +119,7 @@ SetsMemory (Some b) d regions status (Some b') = SetsHandle b d regions status b
 -- changes
 abbrev pub NumbersHandle : ChainHandle → (first status : ℕ) → ChainHandle → Type 0
 NumbersHandle b first status b' =
-    ((is_free b.state ≡ true) × (status ≡ 0) × (b' ≡ record b { serial = first }))
+    ((is_free b.state ≡ true) × (status ≡ 0) × (b' ≡ record b { ticket = first }))
     ⊎ ((is_free b.state ≡ false) × (status ≡ chain_error_number ChainInFlight) × (b' ≡ b))
 
 abbrev pub Numbers : Option ChainHandle → (first status : ℕ) → Option ChainHandle → Type 0
@@ -162,10 +162,10 @@ ReportsStretches before d from most windows count after windows' =
 -- the handle pushes its chain: C gets the stores
 abbrev pub Pushes : Option ChainHandle → FsQueue → (front : List ℕ) → (status : ℕ) → FsStores →
     Option ChainHandle → FsQueue → (front' : List ℕ) → Type 0
-Pushes before q front status reported after q' front' =
-    OnHandle (λ b b'. PushesHandle b q front reported status b' q' front')
+Pushes before q front status filled after q' front' =
+    OnHandle (λ b b'. PushesHandle b q front filled status b' q' front')
     ((status ≡ chain_error_number WrongOrder)
-    × (reported ≡ no_stores)
+    × (filled ≡ no_stores)
     × (q' ≡ q)
     × (front' ≡ front)) before after
 

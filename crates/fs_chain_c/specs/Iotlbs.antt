@@ -61,9 +61,9 @@ abbrev pub MapsByNumber : IotlbPlace → (iova len guest : ℕ) → Option Permi
 MapsByNumber p iova len guest None status p' =
     (status ≡ chain_error_number BadArgument) × (p' ≡ p)
 MapsByNumber p iova len guest (Some access) status p' =
-    (reported : Result (Unit {0}) ChainError)
-    × MapsIn p.table iova len guest access p'.table reported
-    × (status ≡ status_of reported)
+    (result : Result (Unit {0}) ChainError)
+    × MapsIn p.table iova len guest access p'.table result
+    × (status ≡ status_of result)
 
 abbrev pub MapsTable :
     Option IotlbPlace → (iova len guest access status : ℕ) → Option IotlbPlace → Type 0
@@ -74,9 +74,9 @@ MapsTable before iova len guest access status after =
 -- the table loses mappings
 abbrev pub UnmapsPlace : IotlbPlace → (iova len status : ℕ) → IotlbPlace → Type 0
 UnmapsPlace p iova len status p' =
-    (reported : Result (Unit {0}) ChainError)
-    × UnmapsIn p.table iova len p'.table reported
-    × (status ≡ status_of reported)
+    (result : Result (Unit {0}) ChainError)
+    × UnmapsIn p.table iova len p'.table result
+    × (status ≡ status_of result)
 
 abbrev pub UnmapsTable : Option IotlbPlace → (iova len status : ℕ) → Option IotlbPlace → Type 0
 UnmapsTable before iova len status after =
@@ -86,8 +86,8 @@ UnmapsTable before iova len status after =
 abbrev pub ExchangesPlace :
     ChainHandle → IotlbPlace → (status : ℕ) → ChainHandle → IotlbPlace → Type 0
 ExchangesPlace b p status b' p' =
-    (reported : Result (Unit {0}) ChainError) × ExchangesWith b b' p p' reported
-    × (status ≡ status_of reported)
+    (result : Result (Unit {0}) ChainError) × ExchangesWith b b' p p' result
+    × (status ≡ status_of result)
 
 -- the same, if C has both; else nothing changes
 abbrev pub ExchangesTables : Option ChainHandle → Option IotlbPlace → (status : ℕ) → Option ChainHandle →
@@ -105,21 +105,21 @@ no_miss = record { at = 0; len = 0; access = 0 }
 
 -- the first miss of a gathered descriptor from an address on: 39; 0 if there is none; 33 if there is no such
 -- descriptor
-abbrev pub ReportsMissOf :
+abbrev pub FillsMissOf :
     Option Descriptor → Option (IovaRange × Permissions) → (status : ℕ) → FsMiss → Type 0
-ReportsMissOf None miss status reported = (status ≡ 33) × (reported ≡ no_miss)
-ReportsMissOf (Some d) None status reported = (status ≡ 0) × (reported ≡ no_miss)
-ReportsMissOf (Some d) (Some miss) status reported =
+FillsMissOf None miss status filled = (status ≡ 33) × (filled ≡ no_miss)
+FillsMissOf (Some d) None status filled = (status ≡ 0) × (filled ≡ no_miss)
+FillsMissOf (Some d) (Some miss) status filled =
     (status ≡ 39)
-    × (reported ≡ record { at = miss.0.base.0; len = miss.0.length; access = access_number miss.1 })
+    × (filled ≡ record { at = miss.0.base.0; len = miss.0.length; access = access_number miss.1 })
 
-abbrev pub ReportsMiss : ChainHandle → (index from status : ℕ) → FsMiss → Type 0
-ReportsMiss w index from status reported =
-    ReportsMissOf (slice_get w.descriptors.items index)
-    (miss_at (places_in w.regions) (slice_get w.descriptors.items index) from) status reported
+abbrev pub FillsMiss : ChainHandle → (index from status : ℕ) → FsMiss → Type 0
+FillsMiss w index from status filled =
+    FillsMissOf (slice_get w.descriptors.items index)
+    (miss_at (places_in w.regions) (slice_get w.descriptors.items index) from) status filled
 
 -- whether the chain in flight uses one of n addresses
-abbrev pub ReportsUse : ChainHandle → (iova n reported : ℕ) → Type 0
-ReportsUse w iova n reported =
-    ((reported ≡ 1) × (is_out w.state ≡ true) × (All (IsUntouched iova n) w.descriptors.items → ⊥))
-    ⊎ ((reported ≡ 0) × (is_out w.state ≡ true → All (IsUntouched iova n) w.descriptors.items))
+abbrev pub ReportsUse : ChainHandle → (iova n result : ℕ) → Type 0
+ReportsUse w iova n result =
+    ((result ≡ 1) × (is_out w.state ≡ true) × (All (IsUntouched iova n) w.descriptors.items → ⊥))
+    ⊎ ((result ≡ 0) × (is_out w.state ≡ true → All (IsUntouched iova n) w.descriptors.items))

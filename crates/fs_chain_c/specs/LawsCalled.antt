@@ -26,11 +26,11 @@ published_by k seen u =
 
 -- the store of a call with this handle and queue is a wish in each state of the model with this queue
 abbrev pub WishesSo : Option ChainHandle → FsQueue → FsStore → Type 0
-WishesSo before q reported =
+WishesSo before q filled =
     (b : ChainHandle) × (k : QueueState)
     × (before ≡ Some b)
     × IsQueueState q k
-    × ((s : ThreadedQueue) → StoresItsWish b k (walked_by k s) reported)
+    × ((s : ThreadedQueue) → StoresItsWish b k (walked_by k s) filled)
 
 -- the result of a push with this queue is the check in each state of the model with this queue
 abbrev pub ChecksSo : FsQueue → (seen notify : ℕ) → Type 0

@@ -11,12 +11,12 @@ use Rattle.server_phases.specs.declared.listing.NotAdded as reason
 use Rattle.server_phases.specs.Gathering.{Brought, added_found, added_plain}
 use Rattle.fs_chain.specs.declared.error.ChainError.{ChainError}
 use Rattle.fs_chain.specs.declared.error.ChainError.TheVariants.{BadArgument, WrongOrder}
-use Rattle.fs_chain.specs.declared.listing.Added.{Added}
-use Rattle.fs_chain.specs.declared.listing.Added.TheVariants as added
+use Rattle.fs_chain.specs.declared.listing.AddOutcome.{AddOutcome}
+use Rattle.fs_chain.specs.declared.listing.AddOutcome.TheVariants as added
 use Rattle.fs_chain.specs.Listings.{AddsTo, EndsByEntries, EndsByError, adding_error, list_after}
 use Rattle.fs_chain.specs.Numbers.{chain_error_number}
 use Rattle.fs_chain.specs.Orders.{is_listing}
-use Rattle.fs_chain.specs.Serials.{UnlessRefused, serial_error}
+use Rattle.fs_chain.specs.Tickets.{UnlessRefused, ticket_error}
 use Rattle.fs_chain.specs.Walks.{IsAllButPlace}
 use Rattle.fs_chain_c.specs.declared.answers.FsEntry.{FsEntry}
 use Rattle.fs_chain.specs.declared.chain_handle.ChainHandle.{ChainHandle}
@@ -27,7 +27,7 @@ use Rattle.fs_chain_c.specs.Handles.{OnHandle}
 
 -- the status of an added entry: 0 if it is in the list, 36 if the list is full, 37 if the listing fails, or
 -- the error's number
-abbrev pub added_status : Result Added ChainError → ℕ
+abbrev pub added_status : Result AddOutcome ChainError → ℕ
 added_status (Ok added.In) = 0
 added_status (Ok added.Full) = 36
 added_status (Ok added.NoRoom) = 37
@@ -39,12 +39,12 @@ added_status (Err e) = chain_error_number e
 abbrev pub AddsToHandle : ChainHandle → (ticket : ℕ) → Brought → (outcome : Listing → Result (Unit {0})
     reason.NotAdded) → (list : List ℕ) → (status : ℕ) → ChainHandle → (list' : List ℕ) → Type 0
 AddsToHandle b ticket e outcome list status b' list' =
-    (reported : Result Added ChainError)
-    × UnlessRefused (adding_error b ticket (length list)) reported ((b' ≡ b)
-    × (list' ≡ list)) (AddsTo b.state b'.state list list' e outcome reported)
-    × (b'.list_len ≡ list_after b.list_len (length list) reported)
+    (result : Result AddOutcome ChainError)
+    × UnlessRefused (adding_error b ticket (length list)) result ((b' ≡ b)
+    × (list' ≡ list)) (AddsTo b.state b'.state list list' e outcome result)
+    × (b'.list_len ≡ list_after b.list_len (length list) result)
     × IsAllButPlace b b'
-    × (status ≡ added_status reported)
+    × (status ≡ added_status result)
 
 -- whether a directory may have an entry of this name: 1 to 255 bytes, and no slash among them
 abbrev pub is_name : List ℕ → Bool
@@ -108,14 +108,14 @@ ended_len (Err e) = 0
 -- a `ChainHandle`'s listing is answered by the entries so far
 abbrev pub EndsListing : ChainHandle → (ticket status len : ℕ) → ChainHandle → Type 0
 EndsListing b ticket status len b' =
-    (reported : Result ℕ ChainError)
-    × UnlessRefused (serial_error b.state b.serial ticket) reported (b' ≡ b)
-    (EndsByEntries b.state b'.state reported)
-    × OnErr reported (b' ≡ b)
+    (result : Result ℕ ChainError)
+    × UnlessRefused (ticket_error b.state b.ticket ticket) result (b' ≡ b)
+    (EndsByEntries b.state b'.state result)
+    × OnErr result (b' ≡ b)
     × IsAllButPlace b b'
     ×
-    (status ≡ ended_status reported)
-    × (len ≡ ended_len reported)
+    (status ≡ ended_status result)
+    × (len ≡ ended_len result)
 
 -- the same of a handle; `WrongOrder` if it has no `ChainHandle`
 abbrev pub EndsHandleList : (ticket : ℕ) → Option ChainHandle → (status len : ℕ) → Option ChainHandle → Type 0
@@ -126,12 +126,12 @@ EndsHandleList ticket before status len after =
 -- a `ChainHandle`'s listing fails by an errno: its entries so far are the reply, if it has any
 abbrev pub FailsListing : (errno ticket : ℕ) → ChainHandle → (status : ℕ) → ChainHandle → Type 0
 FailsListing errno ticket b status b' =
-    (reported : Result ℕ ChainError)
-    × UnlessRefused (serial_error b.state b.serial ticket) reported (b' ≡ b)
-    (EndsByError errno b.state b'.state reported)
-    × OnErr reported (b' ≡ b)
+    (result : Result ℕ ChainError)
+    × UnlessRefused (ticket_error b.state b.ticket ticket) result (b' ≡ b)
+    (EndsByError errno b.state b'.state result)
+    × OnErr result (b' ≡ b)
     × IsAllButPlace b b'
-    × (status ≡ failed_status reported)
+    × (status ≡ failed_status result)
 
 -- a `ChainHandle`'s call fails by an errno. A listing may end by its entries; another call is answered by the
 -- errno

@@ -35,9 +35,9 @@ RangesAreRoom =
 -- the addresses of element and index that `pk_push` returns are those of the queue's next used position
 abbrev pub PushReportsAddresses : Type 0
 PushReportsAddresses =
-    (b b' : ChainHandle) (q q' : FsQueue) (front front' : List ℕ) (reported : FsStores)
-    → PushesHandle b q front reported 0 b' q' front'
+    (b b' : ChainHandle) (q q' : FsQueue) (front front' : List ℕ) (filled : FsStores)
+    → PushesHandle b q front filled 0 b' q' front'
     → (k : QueueState)
     × IsQueueState q k
-    × (reported.element_guest ≡ element_at (at_position k.layout k.next_used))
-    × (reported.index_guest ≡ index_at (at_position k.layout k.next_used))
+    × (filled.element_guest ≡ element_at (at_position k.layout k.next_used))
+    × (filled.index_guest ≡ index_at (at_position k.layout k.next_used))

@@ -25,8 +25,8 @@ MarksReply (Some b) from count ranges = AreItsAddresses b from (take count range
 
 -- the addresses of element and index are those of the queue's next used position
 abbrev pub MarksUsed : FsQueue → FsStores → Type 0
-MarksUsed q reported =
+MarksUsed q filled =
     (k : QueueState)
     × IsQueueState q k
-    × (reported.element_guest ≡ element_at (at_position k.layout k.next_used))
-    × (reported.index_guest ≡ index_at (at_position k.layout k.next_used))
+    × (filled.element_guest ≡ element_at (at_position k.layout k.next_used))
+    × (filled.index_guest ≡ index_at (at_position k.layout k.next_used))

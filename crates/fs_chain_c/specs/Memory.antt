@@ -10,8 +10,8 @@ use Rattle.server_replies.specs.PageSizes.{is_page_size}
 use Rattle.fs_chain.specs.declared.error.ChainError.TheVariants.{OutOfMemory}
 use Rattle.fs_chain_c.specs.declared.device.FsDevice.{FsDevice}
 use Rattle.fs_chain_c.specs.declared.memory.FsRegion.{FsRegion}
-use Rattle.fs_chain_c.specs.declared.status.Refusal.{Refusal}
-use Rattle.fs_chain_c.specs.declared.status.Refusal.TheVariants.{Of, Invalid}
+use Rattle.fs_chain_c.specs.declared.status.StatusRefusal.{StatusRefusal}
+use Rattle.fs_chain_c.specs.declared.status.StatusRefusal.TheVariants.{Of, Invalid}
 use Rattle.fs_chain_c.specs.Statuses.{many_status, overlap_status, region_status}
 
 -- a device's page size and limit are valid
@@ -62,7 +62,7 @@ pub record HasNoRegion (regions : List FsRegion) (status : ℕ) : Type 0 where
 
 -- why these regions aren't a memory, in this order: one isn't a region; there are too many; two have an
 -- address in common; or they are a memory, and their allocation failed
-abbrev pub IsNoMemory : List FsRegion → Refusal → Type 0
+abbrev pub IsNoMemory : List FsRegion → StatusRefusal → Type 0
 IsNoMemory regions (Invalid status) =
     HasNoRegion regions status
     ⊎ (All IsRegion regions × (512 < length regions) × (status ≡ many_status))
@@ -82,7 +82,7 @@ HaveFault regions =
     × (fault_of (map region_of regions) ≡ Some fault)
 
 -- why these regions, in their order, aren't a memory: a fault, or their allocation failed
-abbrev pub IsNoSortedMemory : List FsRegion → Refusal → Type 0
+abbrev pub IsNoSortedMemory : List FsRegion → StatusRefusal → Type 0
 IsNoSortedMemory regions (Invalid status) = HaveFault regions × (status ≡ overlap_status)
 IsNoSortedMemory regions (Of OutOfMemory) =
     (fault_of (map region_of regions) ≡ None) × RegionsWereRefused (length regions)

@@ -5,7 +5,7 @@ use Rattle.fs_record.specs.Record.{IsRecord, Version}
 use Rattle.fs_chain.specs.declared.queue.QueueState.{QueueState}
 use Rattle.fs_chain_c.specs.declared.device.FsDevice.{FsDevice}
 use Rattle.fs_chain_c.specs.declared.queue.FsQueue.{FsQueue}
-use Rattle.fs_chain_c.specs.Moving.{AreQueueStates, HasNoneInFlight, HasValidMaximum, recorded}
+use Rattle.fs_chain_c.specs.Moving.{AreQueueStates, HasNoChain, HasFittingMaximum, recorded}
 
 -- a save writes a record of the device's options and of the core's queues, none of which has a chain in
 -- flight
@@ -18,7 +18,7 @@ SavesQueues d qs buffer len buffer' =
     × (buffer' ≡ bytes ++ drop len buffer)
     × (len ≡ length bytes)
     × IsRecord bytes v d.options (map recorded ks)
-    × AllByRecursion HasNoneInFlight ks
+    × AllByRecursion HasNoChain ks
 
 -- the bytes begin with a record of the device's options and of the core's first `count` queues
 abbrev pub RestoresQueues : FsDevice → List FsQueue → (saved : List ℕ) → (count : ℕ) → Type 0
@@ -28,8 +28,8 @@ RestoresQueues d' queues' saved count =
     × (bytes : List ℕ) × (rest : List ℕ) × (v : Version)
     × (saved ≡ bytes ++ rest)
     × IsRecord bytes v d'.options (map recorded ks)
-    × AllByRecursion HasNoneInFlight ks
-    × AllByRecursion HasValidMaximum ks
+    × AllByRecursion HasNoChain ks
+    × AllByRecursion HasFittingMaximum ks
 
 -- both devices have the options and the queues of one record
 abbrev pub MovesQueues : FsDevice → List FsQueue → FsDevice → List FsQueue → (count : ℕ) → Type 0
@@ -42,5 +42,5 @@ MovesQueues d qs d' queues' count =
     × IsRecord bytes v d'.options (map recorded ks)
     × (d'.options ≡ d.options)
     × (map recorded ks ≡ map recorded here)
-    × AllByRecursion HasNoneInFlight ks
-    × AllByRecursion HasValidMaximum ks
+    × AllByRecursion HasNoChain ks
+    × AllByRecursion HasFittingMaximum ks

@@ -31,12 +31,12 @@ abbrev pub HasItsWidths : FsQueue → Type 0
 HasItsWidths q = (q.size < 2 ^ 16) × (q.next_avail < 2 ^ 16) × (q.next_used < 2 ^ 16)
 
 -- no chain is in flight: the next chain is popped and pushed at the same position
-abbrev pub HasNoneInFlight : QueueState → Type 0
-HasNoneInFlight k = (k.next_used ≡ k.next_avail) × (k.next_avail < 2 ^ 16)
+abbrev pub HasNoChain : QueueState → Type 0
+HasNoChain k = (k.next_used ≡ k.next_avail) × (k.next_avail < 2 ^ 16)
 
 -- from one chain to as many as the queue has descriptors may be in flight
-abbrev pub HasValidMaximum : QueueState → Type 0
-HasValidMaximum k = (1 ≤ k.max_in_flight) × (k.max_in_flight ≤ k.layout.size)
+abbrev pub HasFittingMaximum : QueueState → Type 0
+HasFittingMaximum k = (1 ≤ k.max_in_flight) × (k.max_in_flight ≤ k.layout.size)
 
 -- `pk_save` writes a record of the device's options and of the core's queues, none of which has a chain in
 -- flight
@@ -50,7 +50,7 @@ SavesARecord =
     × (buffer' ≡ bytes ++ drop len buffer)
     × (len ≡ length bytes)
     × IsRecord bytes v d.options (map recorded ks)
-    × AllByRecursion HasNoneInFlight ks
+    × AllByRecursion HasNoChain ks
 
 -- `pk_restore_unnumbered` reads a record: the device has its options, and the core's queues are reset from
 -- it, each to its position, stopped or not
@@ -62,8 +62,8 @@ RestoresARecord =
     → (bytes : List ℕ) × (rest : List ℕ) × (v : Version)
     × (saved ≡ bytes ++ rest)
     × IsRecord bytes v d'.options (map recorded ks)
-    × AllByRecursion HasNoneInFlight ks
-    × AllByRecursion HasValidMaximum ks
+    × AllByRecursion HasNoChain ks
+    × AllByRecursion HasFittingMaximum ks
 
 -- a device restores the options and queues that one saved, by one record: from any bytes that begin with the
 -- `len` bytes that `pk_save` wrote
@@ -81,5 +81,5 @@ MovesByRecord =
     × IsRecord bytes v d'.options (map recorded ks)
     × (d'.options ≡ d.options)
     × (map recorded ks ≡ map recorded here)
-    × AllByRecursion HasNoneInFlight ks
-    × AllByRecursion HasValidMaximum ks
+    × AllByRecursion HasNoChain ks
+    × AllByRecursion HasFittingMaximum ks

@@ -21,28 +21,28 @@ abbrev pub no_store : FsStore
 no_store = record { at = 0; value = 0; len = 0 }
 
 -- a store of two bytes at its host address, or of length 0 if there is none; 77 if its address isn't mapped
-abbrev pub ReportsStore : Mapped → Option Store → FsStore → (status : ℕ) → Type 0
-ReportsStore regions None reported status = (status ≡ 0) × (reported ≡ no_store)
-ReportsStore regions (Some s) reported status =
+abbrev pub FillsStore : Mapped → Option Store → FsStore → (status : ℕ) → Type 0
+FillsStore regions None filled status = (status ≡ 0) × (filled ≡ no_store)
+FillsStore regions (Some s) filled status =
     ((status ≡ 0)
-    × StandsHere regions Write s.address 2 reported.at
-    × (s.bytes ≡ to_le_bytes w16 reported.value)
-    × (reported.len ≡ 2))
-    ⊎ ((status ≡ 77) × IsNotHere regions Write s.address 2 × (reported ≡ no_store))
+    × StandsHere regions Write s.address 2 filled.at
+    × (s.bytes ≡ to_le_bytes w16 filled.value)
+    × (filled.len ≡ 2))
+    ⊎ ((status ≡ 77) × IsNotHere regions Write s.address 2 × (filled ≡ no_store))
 
 -- the store for a queue of C's; the status of the first cause, if the numbers aren't a queue's
 abbrev pub SetsNotification : ChainHandle → FsQueue → (enabled : ℕ) → FsStore → (status : ℕ) → Type 0
-SetsNotification b q enabled reported status =
-    ((IsQueue q → ⊥) × (status ≡ queue_status q) × (reported ≡ no_store))
+SetsNotification b q enabled filled status =
+    ((IsQueue q → ⊥) × (status ≡ queue_status q) × (filled ≡ no_store))
     ⊎ (IsQueue q
     × (k : QueueState)
     × IsQueueState q k
-    × ReportsStore b.regions (notification_store k (not (enabled == 0))) reported status)
+    × FillsStore b.regions (notification_store k (not (enabled == 0))) filled status)
 
 -- the same with a handle, which doesn't change
-abbrev pub AsksKicks :
+abbrev pub SetsNotifying :
     Option ChainHandle → FsQueue → (enabled : ℕ) → (status : ℕ) → FsStore → Option ChainHandle → Type 0
-AsksKicks before q enabled status reported after =
-    OnHandle (λ b b'. SetsNotification b q enabled reported status
+SetsNotifying before q enabled status filled after =
+    OnHandle (λ b b'. SetsNotification b q enabled filled status
     × (b' ≡ b)) ((status ≡ chain_error_number WrongOrder)
-    × (reported ≡ no_store)) before after
+    × (filled ≡ no_store)) before after

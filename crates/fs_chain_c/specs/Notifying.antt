@@ -18,22 +18,22 @@ use Rattle.fs_chain_c.specs.Pushing.{EndsHandlePush, StandsHere}
 -- a store is the model's wish for the next chain, once it has reached memory: it is where the device has the
 -- wish
 abbrev pub StoresItsWish : ChainHandle → QueueState → ThreadedQueue → FsStore → Type 0
-StoresItsWish b k s reported =
+StoresItsWish b k s filled =
     let asked = after_act (ways_of k) (after_act (ways_of k) s Wishes) WishIsThere in
-    StandsHere b.regions Write (wish_at k) 2 reported.at
-    × (reported.len ≡ 2)
-    × ShowsWish k (to_le_bytes w16 reported.value) asked.event asked.muted
+    StandsHere b.regions Write (wish_at k) 2 filled.at
+    × (filled.len ≡ 2)
+    × ShowsWish k (to_le_bytes w16 filled.value) asked.event asked.muted
     × IsModelOf k asked
 
 -- the store that C makes before a thread sleeps is the model's wish for the next chain
 abbrev pub StoresAWish : Type 0
 StoresAWish =
-    (b : ChainHandle) (q : FsQueue) (reported : FsStore)
-    → SetsNotification b q 1 reported 0
+    (b : ChainHandle) (q : FsQueue) (filled : FsStore)
+    → SetsNotification b q 1 filled 0
     → (k : QueueState)
     × IsQueueState q k
     × ((s : ThreadedQueue)
-    → HasU16Numbers k → IsModelOf k s → s.holder ≡ Walker → StoresItsWish b k s reported)
+    → HasU16Numbers k → IsModelOf k s → s.holder ≡ Walker → StoresItsWish b k s filled)
 
 -- `notify` is the result of the check by the model's giver, of the two bytes that C has loaded behind the
 -- barrier

@@ -11,7 +11,7 @@ use Rattle.fs_chain.specs.declared.queue.QueueState.{QueueState}
 use Rattle.fs_chain.specs.declared.popping.PopOutcome.{PopOutcome}
 use Rattle.fs_chain.specs.declared.popping.PopOutcome.TheVariants as comes
 use Rattle.fs_chain.specs.declared.chain_handle.ChainHandle.{ChainHandle}
-use Rattle.fs_chain.specs.Loads.{ProceedsSo, HasNoPlace, IsLoadWindow, IsSame, RefusesWalk, came}
+use Rattle.fs_chain.specs.Loads.{ProceedsSo, HasNoPlace, IsLoadWindow, IsSame, RefusesAPop, came}
 use Rattle.fs_chain.specs.Numbers.{chain_error_number}
 use Rattle.fs_chain_c.specs.declared.queue.FsQueue.{FsQueue}
 use Rattle.fs_chain_c.specs.declared.popping.FsPopResult.{FsPopResult}
@@ -46,52 +46,52 @@ abbrev pub load_step : Window → FsPopResult
 load_step v = record no_step { load_at = host_at v; load_len = v.len }
 
 -- the load that a pop still needs; 77 if its address isn't mapped
-abbrev pub ReportsLoad : ChainHandle → FsPopResult → (status : ℕ) → Type 0
-ReportsLoad b step status =
+abbrev pub FillsLoad : ChainHandle → FsPopResult → (status : ℕ) → Type 0
+FillsLoad b step status =
     ((v : Window) × IsLoadWindow b (came b) v × (status ≡ 32) × (step ≡ load_step v))
     ⊎ (HasNoPlace b (came b) × (status ≡ 77) × (step ≡ no_step))
 
 -- the load that a pop still needs after a refused call; nothing, if it needs none or the address isn't mapped
-abbrev pub ReportsWanted : ChainHandle → FsPopResult → Type 0
-ReportsWanted b step =
+abbrev pub FillsWanted : ChainHandle → FsPopResult → Type 0
+FillsWanted b step =
     ((v : Window) × IsLoadWindow b (came b) v × (step ≡ load_step v))
     ⊎ (HasNoPlace b (came b) × (step ≡ no_step))
 
 -- the result of a pop and its status: a load, no chain (33), a miss (39), a refusal, a chain, or a faulty
 -- chain
-abbrev pub ReportsOutcome : ChainHandle → outcome.LoadOutcome → FsPopResult → (status : ℕ) → Type 0
-ReportsOutcome b proceeds.Part step status = ReportsLoad b step status
-ReportsOutcome b (proceeds.On (comes.Load n)) step status = ReportsLoad b step status
-ReportsOutcome b (proceeds.On comes.Idle) step status = (status ≡ 33) × (step ≡ no_step)
-ReportsOutcome b (proceeds.On (comes.Missing range access)) step status =
+abbrev pub FillsOutcome : ChainHandle → outcome.LoadOutcome → FsPopResult → (status : ℕ) → Type 0
+FillsOutcome b proceeds.Part step status = FillsLoad b step status
+FillsOutcome b (proceeds.On (comes.Load n)) step status = FillsLoad b step status
+FillsOutcome b (proceeds.On comes.Idle) step status = (status ≡ 33) × (step ≡ no_step)
+FillsOutcome b (proceeds.On (comes.Missing range access)) step status =
     (status ≡ 39)
     × (step ≡ record no_step {
       miss_at = range.base.0;
       miss_len = range.length;
       miss_access = access_number access;
     })
-ReportsOutcome b (proceeds.On (comes.Refused e)) step status = (status ≡ queue_number e) × (step ≡ no_step)
-ReportsOutcome b (proceeds.On (comes.Chain head request room)) step status =
+FillsOutcome b (proceeds.On (comes.Refused e)) step status = (status ≡ queue_number e) × (step ≡ no_step)
+FillsOutcome b (proceeds.On (comes.Chain head request room)) step status =
     (status ≡ 0)
-    × (step ≡ record no_step { head = head; request_len = request; reply_len = room; ticket = b.serial })
-ReportsOutcome b (proceeds.On (comes.Faulty head fault)) step status =
+    × (step ≡ record no_step { head = head; request_len = request; reply_len = room; ticket = b.ticket })
+FillsOutcome b (proceeds.On (comes.Faulty head fault)) step status =
     (status ≡ 0) × (step ≡ record no_step { head = head; fault = chain_fault_number fault })
 
 -- ---- a pop
 
 -- a pop over the core's queue; on an error nothing changes, and the result is the load that the pop
 -- still needs
-abbrev pub WalksPreserved : ChainHandle → FsQueue → QueueState → (loaded : List ℕ) → FsPopResult →
+abbrev pub PopsChecked : ChainHandle → FsQueue → QueueState → (loaded : List ℕ) → FsPopResult →
     (status : ℕ) → ChainHandle → FsQueue → Type 0
-WalksPreserved b q k loaded step status b' q' =
-    ((reported : outcome.LoadOutcome) × (k' : QueueState)
-    × ProceedsSo b k loaded reported b' k'
-    × ReportsOutcome b' reported step status
+PopsChecked b q k loaded step status b' q' =
+    ((result : outcome.LoadOutcome) × (k' : QueueState)
+    × ProceedsSo b k loaded result b' k'
+    × FillsOutcome b' result step status
     × (q' ≡ put q k'))
     ⊎ ((e : ChainError)
-    × RefusesWalk b k loaded e
+    × RefusesAPop b k loaded e
     × (status ≡ chain_error_number e)
-    × ReportsWanted b' step
+    × FillsWanted b' step
     × IsSame b b'
     × (q' ≡ q))
 
@@ -101,21 +101,21 @@ abbrev pub PopsHandle :
     ChainHandle → FsQueue → (loaded : List ℕ) → FsPopResult → (status : ℕ) → ChainHandle → FsQueue → Type 0
 PopsHandle b q loaded step status b' q' =
     ((IsBegun q → ⊥) × (status ≡ begun_status q) × (step ≡ no_step) × (b' ≡ b) × (q' ≡ q))
-    ⊎ (IsBegun q × (k : QueueState) × IsQueueState q k × WalksPreserved b q k loaded step status b' q')
+    ⊎ (IsBegun q × (k : QueueState) × IsQueueState q k × PopsChecked b q k loaded step status b' q')
 
 -- a pop over the core's queue by loads that were made ahead: calls of `pop` one after another. On an error
 -- nothing changes, and the result is the load that the pop still needs
-abbrev pub WalksPreservedAhead : ChainHandle → FsQueue → QueueState → (ahead : List AheadBytes) →
+abbrev pub PopsCheckedAhead : ChainHandle → FsQueue → QueueState → (ahead : List AheadBytes) →
     FsPopResult → (status : ℕ) → ChainHandle → FsQueue → Type 0
-WalksPreservedAhead b q k ahead step status b' q' =
-    ((reported : PopOutcome) × (k' : QueueState)
-    × PopsAhead ahead b b' k k' (proceeds.On reported)
-    × ReportsOutcome b' (proceeds.On reported) step status
+PopsCheckedAhead b q k ahead step status b' q' =
+    ((result : PopOutcome) × (k' : QueueState)
+    × PopsAhead ahead b b' k k' (proceeds.On result)
+    × FillsOutcome b' (proceeds.On result) step status
     × (q' ≡ put q k'))
     ⊎ ((e : ChainError)
     × (ahead_error b.state k ≡ Some e)
     × (status ≡ chain_error_number e)
-    × ReportsWanted b' step
+    × FillsWanted b' step
     × (b' ≡ b)
     × (q' ≡ q))
 
@@ -125,4 +125,4 @@ abbrev pub PopsHandleAhead : ChainHandle → FsQueue → (ahead : List AheadByte
     ChainHandle → FsQueue → Type 0
 PopsHandleAhead b q ahead step status b' q' =
     ((IsBegun q → ⊥) × (status ≡ begun_status q) × (step ≡ no_step) × (b' ≡ b) × (q' ≡ q))
-    ⊎ (IsBegun q × (k : QueueState) × IsQueueState q k × WalksPreservedAhead b q k ahead step status b' q')
+    ⊎ (IsBegun q × (k : QueueState) × IsQueueState q k × PopsCheckedAhead b q k ahead step status b' q')

@@ -14,9 +14,9 @@ use Rattle.fs_chain.specs.declared.pushing.PushStores.{PushStores}
 use Rattle.fs_chain.specs.declared.state.ChainState.TheVariants as at
 use Rattle.fs_chain.specs.Numbers.{chain_error_number}
 use Rattle.fs_chain.specs.Events.{notifies_of}
-use Rattle.fs_chain.specs.Orders.{end_error, give_up_error, has_ring, is_out, push_error, return_error}
+use Rattle.fs_chain.specs.Orders.{end_error, give_up_error, has_ring, is_out, push_error, push_refusal}
 use Rattle.fs_chain.specs.Queues.{gave, gave_up}
-use Rattle.fs_chain.specs.Pushes.{IfHasReply, IsFreed, PushesBy, put_front}
+use Rattle.fs_chain.specs.Pushes.{IfReplied, IsFreed, PushesBy, put_front}
 use Rattle.fs_chain.specs.declared.chain_handle.ChainHandle.{ChainHandle}
 use Rattle.fs_chain_c.specs.declared.queue.FsQueue.{FsQueue}
 use Rattle.fs_chain_c.specs.declared.pushing.FsStores.{FsStores}
@@ -52,18 +52,18 @@ StandsHere regions access guest len here =
     × (here ≡ host_at v)
 
 -- the stores of a push, by their host addresses, and the guest addresses of the used element and index
-abbrev pub ReportsStores : Mapped → PushStores → FsStores → Type 0
-ReportsStores regions s reported =
-    (reported.front_len ≡ s.front_len)
-    × StandsHere regions Write s.used.head.address 4 reported.id_at
-    × (reported.id ≡ s.used.head.value)
-    × StandsHere regions Write s.used.len.address 4 reported.len_at
-    × (reported.len ≡ s.used.len.value)
-    × StandsHere regions Write s.used.index.address 2 reported.index_at
-    × (reported.index ≡ s.used.index.value)
-    × StandsHere regions Read s.seen_at 2 reported.seen_at
-    × (reported.element_guest ≡ s.used.head.address)
-    × (reported.index_guest ≡ s.used.index.address)
+abbrev pub FillsStores : Mapped → PushStores → FsStores → Type 0
+FillsStores regions s filled =
+    (filled.front_len ≡ s.front_len)
+    × StandsHere regions Write s.used.head.address 4 filled.id_at
+    × (filled.id ≡ s.used.head.value)
+    × StandsHere regions Write s.used.len.address 4 filled.len_at
+    × (filled.len ≡ s.used.len.value)
+    × StandsHere regions Write s.used.index.address 2 filled.index_at
+    × (filled.index ≡ s.used.index.value)
+    × StandsHere regions Read s.seen_at 2 filled.seen_at
+    × (filled.element_guest ≡ s.used.head.address)
+    × (filled.index_guest ≡ s.used.index.address)
 
 -- `len` bytes from a guest address on aren't mapped in one piece: the first isn't mapped, or the piece ends
 -- before the last
@@ -87,29 +87,29 @@ HaveNoPlaces regions s =
 -- 77 if the stores aren't mapped
 abbrev pub PushesSo : ChainHandle → QueueState → (front : List ℕ) → FsStores → (status : ℕ) → ChainHandle →
     (front' : List ℕ) → Type 0
-PushesSo b k front reported status b' front' =
+PushesSo b k front filled status b' front' =
     (s : PushStores)
-    × IfHasReply b.state (λ out reply. b' ≡ record b { state = at.Pushing out })
-    × IfHasReply b.state (λ out reply. PushesBy k out reply s)
-    × IfHasReply b.state (λ out reply. front' ≡ put_front reply front)
-    × (((status ≡ 0) × ReportsStores b'.regions s reported)
-    ⊎ ((status ≡ 77) × (reported ≡ no_stores) × HaveNoPlaces b'.regions s))
+    × IfReplied b.state (λ out reply. b' ≡ record b { state = at.Pushing out })
+    × IfReplied b.state (λ out reply. PushesBy k out reply s)
+    × IfReplied b.state (λ out reply. front' ≡ put_front reply front)
+    × (((status ≡ 0) × FillsStores b'.regions s filled)
+    ⊎ ((status ≡ 77) × (filled ≡ no_stores) × HaveNoPlaces b'.regions s))
 
 -- the same over the core's queue, on which no other push begins until this one ends. The queue's rings are
 -- where they were when the chain was popped. An error changes nothing, and a buffer of 160 bytes is never too
 -- short
-abbrev pub ReturnsPreserved : ChainHandle → FsQueue → QueueState → (front : List ℕ) → FsStores → (status : ℕ)
+abbrev pub PushesChecked : ChainHandle → FsQueue → QueueState → (front : List ℕ) → FsStores → (status : ℕ)
     → ChainHandle → FsQueue → (front' : List ℕ) → Type 0
-ReturnsPreserved b q k front reported status b' q' front' =
-    ((return_error b.state k (length front) ≡ None)
-    × PushesSo b k front reported status b' front'
+PushesChecked b q k front filled status b' q' front' =
+    ((push_refusal b.state k (length front) ≡ None)
+    × PushesSo b k front filled status b' front'
     × (q' ≡ put q (record k { pushing = true }))
     × (has_ring b.state b.regions ≡ true))
     ⊎ ((e : ChainError)
     × (push_error (has_ring b.state b.regions) b.state k (length front) ≡ Some e)
     × (e ≡ ShortBuffer → length front < 160)
     × (status ≡ chain_error_number e)
-    × (reported ≡ no_stores)
+    × (filled ≡ no_stores)
     × (b' ≡ b)
     × (q' ≡ q)
     × (front' ≡ front))
@@ -117,15 +117,15 @@ ReturnsPreserved b q k front reported status b' q' front' =
 -- the same over a queue of C's; the status of the first cause, if the numbers aren't a queue's
 abbrev pub PushesHandle : ChainHandle → FsQueue → (front : List ℕ) → FsStores → (status : ℕ) → ChainHandle →
     FsQueue → (front' : List ℕ) → Type 0
-PushesHandle b q front reported status b' q' front' =
+PushesHandle b q front filled status b' q' front' =
     ((IsQueue q → ⊥)
     × (status ≡ queue_status q)
-    × (reported ≡ no_stores)
+    × (filled ≡ no_stores)
     × (b' ≡ b)
     × (q' ≡ q)
     × (front' ≡ front))
     ⊎ (IsQueue q × (k : QueueState) × IsQueueState q k
-    × ReturnsPreserved b q k front reported status b' q' front')
+    × PushesChecked b q k front filled status b' q' front')
 
 -- ---- the end of a push
 
@@ -135,9 +135,9 @@ RefusesPush b q why status b' q' = (status ≡ why) × (b' ≡ b) × (q' ≡ q)
 
 -- the stores are made: the chain is freed, and the core's queue pushes its next chain at the next position;
 -- on an error nothing changes
-abbrev pub EndsPreserved :
+abbrev pub EndsChecked :
     ChainHandle → FsQueue → QueueState → (seen notify status : ℕ) → ChainHandle → FsQueue → Type 0
-EndsPreserved b q k seen notify status b' q' =
+EndsChecked b q k seen notify status b' q' =
     ((end_error b.state k ≡ None)
     × (status ≡ 0)
     × (notify ≡ flag (notifies_of k (to_le_bytes w16 seen)))
@@ -152,7 +152,7 @@ EndsPreserved b q k seen notify status b' q' =
 abbrev pub EndsHandlePush : ChainHandle → FsQueue → (seen notify status : ℕ) → ChainHandle → FsQueue → Type 0
 EndsHandlePush b q seen notify status b' q' =
     ((IsQueue q → ⊥) × (notify ≡ 0) × RefusesPush b q (queue_status q) status b' q')
-    ⊎ (IsQueue q × (k : QueueState) × IsQueueState q k × EndsPreserved b q k seen notify status b' q')
+    ⊎ (IsQueue q × (k : QueueState) × IsQueueState q k × EndsChecked b q k seen notify status b' q')
 
 -- ---- a dropped chain
 
@@ -161,8 +161,8 @@ abbrev pub dropped : ChainHandle → QueueState → QueueState
 dropped b k = if is_out b.state then gave_up k else k
 
 -- a drop over the core's queue; on an error nothing changes
-abbrev pub DropsPreserved : ChainHandle → FsQueue → QueueState → (status : ℕ) → ChainHandle → FsQueue → Type 0
-DropsPreserved b q k status b' q' =
+abbrev pub DropsChecked : ChainHandle → FsQueue → QueueState → (status : ℕ) → ChainHandle → FsQueue → Type 0
+DropsChecked b q k status b' q' =
     ((give_up_error b.state k ≡ None) × (status ≡ 0) × IsFreed b b' × (q' ≡ put q (dropped b k)))
     ⊎ ((e : ChainError)
     × (give_up_error b.state k ≡ Some e)
@@ -178,4 +178,4 @@ DropsHandleChain b q status b' q' =
     × IsQueue q
     × (k : QueueState)
     × IsQueueState q k
-    × DropsPreserved b q k status b' q')
+    × DropsChecked b q k status b' q')

@@ -11,12 +11,12 @@ use Rattle.fs_chain_c.specs.Handles.{OnHandle}
 -- a range of the guest addresses of the reply buffer from byte `from` on, of 1 to `most` bytes; it ends
 -- with its descriptor at the latest
 abbrev pub IsReplyRange : ChainHandle → (from most : ℕ) → FsRange → Type 0
-IsReplyRange w from most reported =
+IsReplyRange w from most filled =
     (is_out w.state ≡ true)
     × (n : ℕ)
-    × IsRangeFrom true w.descriptors.items from reported.guest n
-    × (reported.len ≡ min n most)
-    × (0 < reported.len)
+    × IsRangeFrom true w.descriptors.items from filled.guest n
+    × (filled.len ≡ min n most)
+    × (0 < filled.len)
 
 -- ranges, one behind another
 abbrev pub AreReplyRanges : ChainHandle → (from most : ℕ) → List FsRange → Type 0

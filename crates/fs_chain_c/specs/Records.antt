@@ -15,8 +15,8 @@ use Rattle.fs_chain_c.specs.declared.queue.FsQueue.{FsQueue}
 use Rattle.fs_chain_c.specs.Memory.{IsDevice}
 use Rattle.fs_chain_c.specs.Queues.{IsQueue, chains_in_flight}
 use Rattle.fs_chain_c.specs.Statuses.{device_status, queue_status, refusal_status}
-use Rattle.fs_chain_c.specs.declared.status.Refusal.{Refusal}
-use Rattle.fs_chain_c.specs.declared.status.Refusal.TheVariants.{Of, Invalid}
+use Rattle.fs_chain_c.specs.declared.status.StatusRefusal.{StatusRefusal}
+use Rattle.fs_chain_c.specs.declared.status.StatusRefusal.TheVariants.{Of, Invalid}
 
 -- the queue that a record keeps of these numbers
 abbrev pub queue_of : FsQueue → Queue
@@ -37,13 +37,13 @@ abbrev pub CanSave : FsDevice → List FsQueue → Type 0
 CanSave d qs = IsDevice d × HasKnownBits d.options × (1 ≤ length qs) × (length qs ≤ 64) × All IsQueue qs
 
 -- why a record can't keep a queue: its numbers aren't a queue's, or a chain of it is in flight
-abbrev pub RefusesToSave : FsQueue → Refusal → Type 0
+abbrev pub RefusesToSave : FsQueue → StatusRefusal → Type 0
 RefusesToSave q (Invalid status) = (IsQueue q → ⊥) × (status ≡ queue_status q)
 RefusesToSave q (Of ChainInFlight) = IsQueue q × (HasNoneOut q → ⊥)
 RefusesToSave q _ = ⊥
 
 -- why a record can't keep some queues: the reason of the first that it can't keep
-pub record RefusesQueues (qs : List FsQueue) (why : Refusal) : Type 0 where
+pub record RefusesQueues (qs : List FsQueue) (why : StatusRefusal) : Type 0 where
   pub before : List FsQueue
   pub queue : FsQueue
   pub after : List FsQueue
@@ -59,7 +59,8 @@ bytes_of d qs = record_bytes (Second d.page_size d.limit) d.options (map queue_o
 -- the record is written to the front of a buffer, or it is refused. The device is checked first, then its
 -- options and the count of queues, then each queue in order, then memory, then the buffer's length
 abbrev pub SavesSo :
-    FsDevice → List FsQueue → (buffer : List ℕ) → Option Refusal → (len : ℕ) → (buffer' : List ℕ) → Type 0
+    FsDevice → List FsQueue → (buffer : List ℕ) → Option StatusRefusal → (len : ℕ) → (buffer' : List ℕ) →
+    Type 0
 SavesSo d qs buffer None len buffer' =
     CanSave d qs
     × All HasNoneOut qs
@@ -85,14 +86,14 @@ SavesSo d qs buffer (Some (Of OutOfMemory)) len buffer' =
 SavesSo d qs buffer (Some _) len buffer' = ⊥
 
 -- the status of saving a record
-abbrev pub saved_status : Option Refusal → ℕ
+abbrev pub saved_status : Option StatusRefusal → ℕ
 saved_status None = 0
 saved_status (Some why) = refusal_status why
 
 abbrev pub Saves :
     FsDevice → List FsQueue → (buffer : List ℕ) → (status len : ℕ) → (buffer' : List ℕ) → Type 0
 Saves d qs buffer status len buffer' =
-    (how : Option Refusal) × (status ≡ saved_status how) × SavesSo d qs buffer how len buffer'
+    (how : Option StatusRefusal) × (status ≡ saved_status how) × SavesSo d qs buffer how len buffer'
 
 -- ---- restoring a record
 

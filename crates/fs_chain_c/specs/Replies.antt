@@ -111,7 +111,7 @@ is_longer None is_mine len = false
 is_longer (Some most) is_mine len = is_mine && nat_lt most len
 
 abbrev pub is_long : ChainHandle → (ticket len : ℕ) → Bool
-is_long b ticket len = is_longer (read_limit b.state) (b.serial == ticket) len
+is_long b ticket len = is_longer (read_limit b.state) (b.ticket == ticket) len
 
 -- a `ChainHandle`'s call is answered with data; `LongReply`, if it is a READ and there is too much data, and
 -- nothing changes
@@ -146,14 +146,14 @@ AsksChain before d request status call after =
 -- a `ChainHandle` has a reply of `len` bytes that C wrote; nothing else changes
 abbrev pub KeepsOwn : (len : ℕ) → ChainHandle → ChainHandle → Type 0
 KeepsOwn len b b' =
-    IfUnanswered b.state (λ out. b' ≡ record b { state = at.HasReply out (own_reply len) })
+    IfUnanswered b.state (λ out. b' ≡ record b { state = at.Replied out (own_reply len) })
 
 -- C's own bytes are the reply, by the chain's ticket; on an error nothing changes
 abbrev pub RepliesOwn : (ticket len : ℕ) → ChainHandle → (status : ℕ) → ChainHandle → Type 0
 RepliesOwn ticket len b status b' =
-    ((own_error b.state b.serial ticket len ≡ None) × (status ≡ 0) × KeepsOwn len b b')
+    ((own_error b.state b.ticket ticket len ≡ None) × (status ≡ 0) × KeepsOwn len b b')
     ⊎ ((e : ChainError)
-    × (own_error b.state b.serial ticket len ≡ Some e)
+    × (own_error b.state b.ticket ticket len ≡ Some e)
     × (status ≡ chain_error_number e)
     × (b' ≡ b))
 

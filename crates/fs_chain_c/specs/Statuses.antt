@@ -6,11 +6,11 @@ use Rattle.fs_queue.specs.declared.fault.QueueLayoutError.TheVariants.{BadSize, 
 use Rattle.fs_chain.specs.Numbers.{chain_error_number}
 use Rattle.fs_chain_c.specs.declared.memory.FsRegion.{FsRegion}
 use Rattle.fs_chain_c.specs.declared.queue.FsQueue.{FsQueue}
-use Rattle.fs_chain_c.specs.declared.status.Refusal.{Refusal}
-use Rattle.fs_chain_c.specs.declared.status.Refusal.TheVariants.{Of, Invalid}
+use Rattle.fs_chain_c.specs.declared.status.StatusRefusal.{StatusRefusal}
+use Rattle.fs_chain_c.specs.declared.status.StatusRefusal.TheVariants.{Of, Invalid}
 
 -- the status of a refusal
-abbrev pub refusal_status : Refusal → ℕ
+abbrev pub refusal_status : StatusRefusal → ℕ
 refusal_status (Of e) = chain_error_number e
 refusal_status (Invalid status) = status
 

@@ -12,13 +12,13 @@ use Rattle.fs_chain_c.specs.Popping.{host_at}
 -- a window of the bytes of one direction from byte `from` on, of 1 to `most` bytes; it ends with its
 -- descriptor and its region at the latest
 abbrev pub IsStretch : ChainHandle → (write_only : Bool) → (from most : ℕ) → FsWindow → Type 0
-IsStretch w d from most reported =
+IsStretch w d from most filled =
     (is_out w.state ≡ true)
     × (v : Window)
     × IsWindowFrom w.regions d w.descriptors.items from v
-    × (reported.at ≡ host_at v)
-    × (reported.len ≡ min v.len most)
-    × (0 < reported.len)
+    × (filled.at ≡ host_at v)
+    × (filled.len ≡ min v.len most)
+    × (0 < filled.len)
 
 -- windows, one behind another
 abbrev pub AreStretches : ChainHandle → (write_only : Bool) → (from most : ℕ) → List FsWindow → Type 0

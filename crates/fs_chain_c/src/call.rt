@@ -1,7 +1,7 @@
 //! The file call of a request, with the fields that C gets.
 
 ghost use Rattle.std.specs.Prelude.{◌≡◌, ◌-◌};
-ghost use Rattle.fs_chain_c.specs.Calls.{attr_reported, data_len, made, made_by, empty_call, span};
+ghost use Rattle.fs_chain_c.specs.Calls.{filled_attr, data_len, made, made_by, empty_call, span};
 
 use crate::answer_kind::{AnswerKind, call_number};
 use fuse_fs::Context;
@@ -233,22 +233,22 @@ impl FsCall {
     pub(crate) fn made(opcode: Opcode, answer: AnswerKind) -> FsCall
         ensures { result ≡ made opcode answer }
     {
-        let mut reported = NO_CALL;
-        reported.kind = call_number(opcode);
-        reported.answer = answer.number();
-        reported
+        let mut filled = NO_CALL;
+        filled.kind = call_number(opcode);
+        filled.answer = answer.number();
+        filled
     }
 
     // The same of a call that a process makes on a node.
     pub(crate) fn made_by(opcode: Opcode, answer: AnswerKind, who: &Context, node: u64) -> FsCall
         ensures { result ≡ made_by opcode answer who.now node }
     {
-        let mut reported = FsCall::made(opcode, answer);
-        reported.uid = who.uid.0;
-        reported.gid = who.gid.0;
-        reported.pid = who.pid.cast_unsigned();
-        reported.node = node;
-        reported
+        let mut filled = FsCall::made(opcode, answer);
+        filled.uid = who.uid.0;
+        filled.gid = who.gid.0;
+        filled.pid = who.pid.cast_unsigned();
+        filled.node = node;
+        filled
     }
 }
 
@@ -280,19 +280,19 @@ pub(crate) fn data_len(size: u32, room: usize) -> u64
 }
 
 // The attributes that SETATTR sets.
-pub(crate) fn attr_reported(attr: &SetattrIn) -> FsAttr
-    ensures { result ≡ attr_reported attr.now }
+pub(crate) fn filled_attr(attr: &SetattrIn) -> FsAttr
+    ensures { result ≡ filled_attr attr.now }
 {
-    let mut reported = NO_ATTR;
-    reported.size = attr.size;
-    reported.atime = attr.atime;
-    reported.mtime = attr.mtime;
-    reported.ctime = attr.ctime;
-    reported.atime_nanos = attr.atimensec;
-    reported.mtime_nanos = attr.mtimensec;
-    reported.ctime_nanos = attr.ctimensec;
-    reported.mode = attr.mode;
-    reported.uid = attr.uid.0;
-    reported.gid = attr.gid.0;
-    reported
+    let mut filled = NO_ATTR;
+    filled.size = attr.size;
+    filled.atime = attr.atime;
+    filled.mtime = attr.mtime;
+    filled.ctime = attr.ctime;
+    filled.atime_nanos = attr.atimensec;
+    filled.mtime_nanos = attr.mtimensec;
+    filled.ctime_nanos = attr.ctimensec;
+    filled.mode = attr.mode;
+    filled.uid = attr.uid.0;
+    filled.gid = attr.gid.0;
+    filled
 }

@@ -1,10 +1,10 @@
 //! The fields that C gets of each file call: one row for each.
 
 ghost use Rattle.std.specs.Prelude.{◌≡◌, ℕ, true};
-ghost use Rattle.fs_chain_c.specs.Calls.{has_name, is_of_open_file, reported_call};
+ghost use Rattle.fs_chain_c.specs.Calls.{has_name, is_of_open_file, fill_call};
 
 use crate::answer_kind::{AnswerKind, call_number, listing, sized};
-use crate::call::{FsCall, HEADER, attr_reported, behind_header, data_len, span};
+use crate::call::{FsCall, HEADER, behind_header, data_len, filled_attr, span};
 use bitflags::Flags;
 use fuse_values::FileCall;
 use fuse_wire::Opcode;
@@ -13,19 +13,19 @@ use server_meanings::REQUEST_FRONT;
 // A match over all calls. A row of `of_a_node` is a call that a process makes on a node: the fields to match,
 // the answer's kind, and the fields to set. A row of `others` has the fields to match, the call to start
 // with, and the fields to set. Other arms follow the rows.
-macro_rules! reported {
-    ($call:expr, $reported:expr,
+macro_rules! filled {
+    ($call:expr, $filled:expr,
         of_a_node { $($name:ident { $($part:tt)* } $kind:ident $(, $field:ident: $value:expr)*;)* }
         others { $($other:ident { $($piece:tt)* } = $start:expr $(, $slot:ident: $given:expr)*;)* }
         $($arm:tt)*) => {
         match $call {
             $(FileCall::$name { context, node, $($part)* } => {
-                *$reported = FsCall::made_by(Opcode::$name, AnswerKind::$kind, context, *node);
-                $($reported.$field = $value;)*
+                *$filled = FsCall::made_by(Opcode::$name, AnswerKind::$kind, context, *node);
+                $($filled.$field = $value;)*
             })*
             $(FileCall::$other { $($piece)* } => {
-                *$reported = $start;
-                $($reported.$slot = $given;)*
+                *$filled = $start;
+                $($filled.$slot = $given;)*
             })*
             $($arm)*
         }
@@ -33,11 +33,11 @@ macro_rules! reported {
 }
 
 // Fills a call whose request has names, as C gets it.
-fn named_call(room: usize, call: &FileCall<'_>, reported: &mut FsCall)
+fn named_call(room: usize, call: &FileCall<'_>, filled: &mut FsCall)
     requires named { has_name call.now ≡ true }
-    ensures { (opcode : ℕ) → reported.new ≡ reported_call opcode room call.now }
+    ensures { (opcode : ℕ) → filled.new ≡ fill_call opcode room call.now }
 {
-    reported!(call, reported, of_a_node {
+    filled!(call, filled, of_a_node {
         Lookup { name } Entry, name: span(name);
         Symlink { link, name, extra } Entry,
             name: span(name), value: span(link),
@@ -69,11 +69,11 @@ fn named_call(room: usize, call: &FileCall<'_>, reported: &mut FsCall)
 }
 
 // Fills a call on an open file or directory, which it names by its handle, as C gets it.
-fn open_file_call(opcode: u32, room: usize, call: &FileCall<'_>, reported: &mut FsCall)
+fn open_file_call(opcode: u32, room: usize, call: &FileCall<'_>, filled: &mut FsCall)
     requires opened { is_of_open_file call.now ≡ true }
-    ensures { reported.new ≡ reported_call opcode room call.now }
+    ensures { filled.new ≡ fill_call opcode room call.now }
 {
-    reported!(call, reported, of_a_node {
+    filled!(call, filled, of_a_node {
         Read { handle, room: most, size, offset, owner, flags } Data,
             handle: *handle, offset: *offset, size: u64::from(*size), data_at: HEADER, data_len: *most as u64,
             flags: *flags, has_owner: u8::from(owner.is_some()), owner: owner.unwrap_or(0);
@@ -102,15 +102,15 @@ fn open_file_call(opcode: u32, room: usize, call: &FileCall<'_>, reported: &mut 
 }
 
 /// Fills a call as C gets it, by the opcode of its request and the length of the reply buffer.
-pub(crate) fn reported_call(opcode: u32, room: usize, call: &FileCall<'_>, reported: &mut FsCall)
-    ensures { reported.new ≡ reported_call opcode room call.now }
+pub(crate) fn fill_call(opcode: u32, room: usize, call: &FileCall<'_>, filled: &mut FsCall)
+    ensures { filled.new ≡ fill_call opcode room call.now }
 {
-    reported!(call, reported, of_a_node {
+    filled!(call, filled, of_a_node {
         Forget { count } None, count: *count;
         Getattr { handle } Attr, has_handle: u8::from(handle.is_some()), handle: handle.unwrap_or(0);
         Setattr { attr, handle, valid } Attr,
             has_handle: u8::from(handle.is_some()), handle: handle.unwrap_or(0), valid: valid.bits(),
-            owner: attr.lock_owner, attr: attr_reported(attr);
+            owner: attr.lock_owner, attr: filled_attr(attr);
         Readlink {} Data, data_at: HEADER, data_len: behind_header(room);
         Open { kill, flags } Open, flags: *flags, kill_priv: u8::from(*kill);
         Statfs {} Statfs;
@@ -137,11 +137,11 @@ pub(crate) fn reported_call(opcode: u32, room: usize, call: &FileCall<'_>, repor
             | FileCall::Mkdir { .. } | FileCall::Unlink { .. } | FileCall::Rmdir { .. }
             | FileCall::Rename { .. } | FileCall::Setxattr { .. } | FileCall::Getxattr { .. }
             | FileCall::Removexattr { .. } | FileCall::Create { .. } | FileCall::Link { .. } =>
-            named_call(room, call, reported),
+            named_call(room, call, filled),
         FileCall::Read { .. } | FileCall::Write { .. } | FileCall::Release { .. }
             | FileCall::Fsync { .. } | FileCall::Fsyncdir { .. } | FileCall::Flush { .. }
             | FileCall::Readdir { .. } | FileCall::Releasedir { .. } | FileCall::Fallocate { .. }
             | FileCall::Lseek { .. } | FileCall::CopyFileRange { .. } =>
-            open_file_call(opcode, room, call, reported)
+            open_file_call(opcode, room, call, filled)
     )
 }

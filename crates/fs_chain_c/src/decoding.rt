@@ -1,7 +1,7 @@
 //! Decoding a chain's request.
 
 ghost use Rattle.std.specs.Prelude.{◌≡◌};
-ghost use Rattle.fs_chain_c.specs.Decoding.{AnswersHandle, DecodesHandle, AnswersAtOnce, ReportsAsked};
+ghost use Rattle.fs_chain_c.specs.Decoding.{AnswersHandle, DecodesHandle, AnswersAtOnce, FillsCall};
 ghost use Rattle.fs_chain_c.specs.Decoding.{answer_unasked, fault_after};
 
 use crate::call::FsCall;
@@ -55,7 +55,7 @@ fn settle(handle: &mut ChainHandle, answer: Option<FileAnswer>) -> u32
 {
     match answer {
         Some(answer) => {
-            let ticket = handle.serial();
+            let ticket = handle.ticket();
             answer_handle(handle, ticket, answer)
         }
         None => 0,
@@ -74,10 +74,15 @@ fn fault_after(status: u32) -> u32
 }
 
 // The call of a decoded request, and a status.
-fn tell(handle: &mut ChainHandle, request: &[u8], reported: Decoded<'_>, call: &mut FsCall) -> u32
-    ensures { ReportsAsked handle.old request.now reported.entry call.new result handle.new }
+fn fill_decoded(
+    handle: &mut ChainHandle,
+    request: &[u8],
+    decoded: Decoded<'_>,
+    call: &mut FsCall,
+) -> u32
+    ensures { FillsCall handle.old request.now decoded.entry call.new result handle.new }
 {
-    match reported {
+    match decoded {
         Decoded::Call(made) => {
             call_fields(request, handle.room_len(), &made, call);
             let answered = settle(handle, answer_unasked(&made));
@@ -120,9 +125,9 @@ pub fn decode_handle(
     let options = FsOptions::from_bits_retain(device.options);
     let session = Session::resume(device.page_size, options);
     match handle.decode(session, request) {
-        Ok(reported) => {
-            let ticket = handle.serial();
-            let status = tell(handle, request, reported, call);
+        Ok(decoded) => {
+            let ticket = handle.ticket();
+            let status = fill_decoded(handle, request, decoded, call);
             call.ticket = ticket;
             status
         }

@@ -5,7 +5,7 @@ ghost use Rattle.std.specs.Int.{w32, w64, from_le_bytes};
 ghost use Rattle.fs_chain_c.specs.Calls.{call_fields, labelled, numbered, opcode_in, unique_in};
 
 use crate::call::{FsCall, span};
-use crate::call_table::reported_call;
+use crate::call_table::fill_call;
 use fuse_values::{FileCall, Label};
 
 // Four bytes of a request as a number.
@@ -51,14 +51,14 @@ pub fn number(request: &[u8], call: &mut FsCall)
 }
 
 // Adds the label of a new node and its name, if the request has one.
-fn add_label(label: &Option<Label<'_>>, reported: &mut FsCall)
-    ensures { reported.new ≡ labelled label.now reported.old }
+fn add_label(label: &Option<Label<'_>>, filled: &mut FsCall)
+    ensures { filled.new ≡ labelled label.now filled.old }
 {
     match label {
         Some(label) => {
-            reported.has_label = 1;
-            reported.label_name = span(&label.name);
-            reported.label = span(&label.secctx);
+            filled.has_label = 1;
+            filled.label_name = span(&label.name);
+            filled.label = span(&label.secctx);
         }
         None => {}
     }
@@ -66,16 +66,16 @@ fn add_label(label: &Option<Label<'_>>, reported: &mut FsCall)
 
 /// Fills a call's fields, by its request and the length of the reply buffer.
 #[inline(never)]
-pub fn call_fields(request: &[u8], room: usize, call: &FileCall<'_>, reported: &mut FsCall)
-    ensures { reported.new ≡ call_fields request.now room call.now }
+pub fn call_fields(request: &[u8], room: usize, call: &FileCall<'_>, filled: &mut FsCall)
+    ensures { filled.new ≡ call_fields request.now room call.now }
 {
-    reported_call(opcode_in(request), room, call, reported);
-    number(request, reported);
+    fill_call(opcode_in(request), room, call, filled);
+    number(request, filled);
     match call {
         FileCall::Symlink { extra, .. }
         | FileCall::Mknod { extra, .. }
         | FileCall::Mkdir { extra, .. }
-        | FileCall::Create { extra, .. } => add_label(&extra.secctx, reported),
+        | FileCall::Create { extra, .. } => add_label(&extra.secctx, filled),
         _ => {}
     }
 }

@@ -11,10 +11,10 @@ use memory_requests::boxed;
 use std::alloc::Global;
 
 // The status of a result: 0, or the error's number.
-fn status_of(reported: Result<(), ChainError>) -> u32
-    ensures { result ≡ status_of reported }
+fn status_of(returned: Result<(), ChainError>) -> u32
+    ensures { result ≡ status_of returned }
 {
-    match reported {
+    match returned {
         Ok(()) => 0,
         Err(error) => u32::from(error.number()),
     }

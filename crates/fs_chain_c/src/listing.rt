@@ -12,7 +12,7 @@ ghost use Rattle.fs_chain_c.specs.Handles.{OnHandle};
 use crate::decoding::answer_handle;
 use crate::handle::FsChain;
 use crate::status::wrong_order;
-use fs_chain::{Added, ChainError, ChainHandle};
+use fs_chain::{AddOutcome, ChainError, ChainHandle};
 use fuse_base::Errno;
 use fuse_fs::{DirEntry, Entry};
 use fuse_values::FileAnswer;
@@ -31,13 +31,13 @@ const ENTRIES: u32 = 38;
 const NAME_MAX: usize = 255;
 
 // The status of an added entry.
-fn added_status(reported: Result<Added, ChainError>) -> u32
-    ensures { result ≡ added_status reported }
+fn added_status(returned: Result<AddOutcome, ChainError>) -> u32
+    ensures { result ≡ added_status returned }
 {
-    match reported {
-        Ok(Added::In) => 0,
-        Ok(Added::Full) => FULL,
-        Ok(Added::NoRoom) | Ok(Added::TooLong) => LIST_FAILS,
+    match returned {
+        Ok(AddOutcome::In) => 0,
+        Ok(AddOutcome::Full) => FULL,
+        Ok(AddOutcome::NoRoom) | Ok(AddOutcome::TooLong) => LIST_FAILS,
         Err(error) => u32::from(error.number()),
     }
 }

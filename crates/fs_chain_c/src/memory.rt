@@ -13,7 +13,7 @@ ghost use Rattle.fs_chain_c.specs.declared.memory.FsRegion.{FsRegion};
 
 use crate::status::{
     BAD_REGION_END, BAD_REGION_GUEST, BAD_REGION_HOST, BAD_REGION_LEN, EMPTY_REGION,
-    REGIONS_OVERLAP, Refusal, TOO_MANY_REGIONS,
+    REGIONS_OVERLAP, StatusRefusal, TOO_MANY_REGIONS,
 };
 use arrayvec::ArrayVec;
 use fs_chain::ChainError;
@@ -120,7 +120,7 @@ fn stand_apart(regions: &[FsRegion]) -> bool
 
 // The memory of regions that ascend, if no two have an address in common. That is checked before any
 // allocation.
-fn memory_of_sorted(alloc: Global, regions: &[FsRegion]) -> Result<GuestRegions, Refusal>
+fn memory_of_sorted(alloc: Global, regions: &[FsRegion]) -> Result<GuestRegions, StatusRefusal>
     requires are { All IsRegion regions.now }
     ensures ok { IfOk result (λ memory. memory ≡ map region_of regions.now) }
     ensures apart { IfOk result (λ memory. StandApart memory) }
@@ -130,16 +130,16 @@ fn memory_of_sorted(alloc: Global, regions: &[FsRegion]) -> Result<GuestRegions,
         return Ok(GuestRegions::none(alloc));
     }
     if !stand_apart(regions) {
-        return Err(Refusal::Invalid(REGIONS_OVERLAP));
+        return Err(StatusRefusal::Invalid(REGIONS_OVERLAP));
     }
     let made = match regions_of(alloc, regions) {
         Ok(made) => made,
-        Err(error) => return Err(Refusal::Of(error)),
+        Err(error) => return Err(StatusRefusal::Of(error)),
     };
     match GuestRegions::of_regions(alloc, made) {
         Ok(memory) => Ok(memory),
-        Err(RegionsError::OutOfMemory) => Err(Refusal::Of(ChainError::OutOfMemory)),
-        Err(_) => Err(Refusal::Invalid(REGIONS_OVERLAP)),
+        Err(RegionsError::OutOfMemory) => Err(StatusRefusal::Of(ChainError::OutOfMemory)),
+        Err(_) => Err(StatusRefusal::Invalid(REGIONS_OVERLAP)),
     }
 }
 
@@ -161,15 +161,15 @@ fn sorted(regions: &[FsRegion]) -> Option<ArrayVec<FsRegion, MOST_REGIONS>>
 }
 
 /// The memory of some regions, or why there is none.
-pub fn memory_of(alloc: Global, regions: &[FsRegion]) -> Result<GuestRegions, Refusal>
+pub fn memory_of(alloc: Global, regions: &[FsRegion]) -> Result<GuestRegions, StatusRefusal>
     ensures ok { IfOk result (IsMemory regions.now) }
     ensures err { IfErr result (IsNoMemory regions.now) }
 {
     if let Some(status) = region_refusal(regions) {
-        return Err(Refusal::Invalid(status));
+        return Err(StatusRefusal::Invalid(status));
     }
     match sorted(regions) {
         Some(sorted) => memory_of_sorted(alloc, sorted.as_slice()),
-        None => Err(Refusal::Invalid(TOO_MANY_REGIONS)),
+        None => Err(StatusRefusal::Invalid(TOO_MANY_REGIONS)),
     }
 }

@@ -1,7 +1,7 @@
 //! The addresses that an IOMMU's table lacks, and those of it that a chain uses.
 
 ghost use Rattle.std.specs.Prelude.{◌≡◌};
-ghost use Rattle.fs_chain_c.specs.Iotlbs.{ReportsMiss, ReportsUse, no_miss};
+ghost use Rattle.fs_chain_c.specs.Iotlbs.{FillsMiss, ReportsUse, no_miss};
 
 use crate::access::access_number;
 use crate::popping::MISS;
@@ -40,7 +40,7 @@ impl FsMiss {
 
 /// The first miss of a gathered descriptor from an address on, and a status.
 pub fn miss_of(handle: &ChainHandle, index: usize, from: u64) -> (FsMiss, u32)
-    ensures { ReportsMiss handle.now index from result.1 result.0 }
+    ensures { FillsMiss handle.now index from result.1 result.0 }
 {
     if handle.gathered() <= index {
         return (FsMiss::nothing(), NO_DESCRIPTOR);

@@ -38,10 +38,10 @@ impl FsStore {
 pub fn set_notification(handle: &ChainHandle, queue: &FsQueue, enabled: u32) -> (FsStore, u32)
     ensures { SetsNotification handle.now queue.now enabled result.0 result.1 }
 {
-    let Some(preserved) = queue.preserved() else {
+    let Some(checked) = queue.checked() else {
         return (FsStore::nothing(), queue.refusal());
     };
-    let Some(store) = preserved.notification_store(enabled != 0) else {
+    let Some(store) = checked.notification_store(enabled != 0) else {
         return (FsStore::nothing(), 0);
     };
     match here(handle, store.address, 2, Permissions::Write) {

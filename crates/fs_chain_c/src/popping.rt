@@ -2,7 +2,7 @@
 
 ghost use Rattle.std.specs.Prelude.{◌≡◌, ◌≤◌};
 ghost use Rattle.fs_regions.specs.Ahead.{loads_ahead};
-ghost use Rattle.fs_chain_c.specs.Popping.{ReportsLoad, ReportsWanted, ReportsOutcome, PopsHandle};
+ghost use Rattle.fs_chain_c.specs.Popping.{FillsLoad, FillsWanted, FillsOutcome, PopsHandle};
 ghost use Rattle.fs_chain_c.specs.Popping.{PopsHandleAhead, host_at, no_step};
 
 use crate::access::access_number;
@@ -78,7 +78,7 @@ pub fn host_at(window: &VolatileSlice) -> usize
 
 // The load that a pop still needs, if any.
 fn still_wanted(handle: &ChainHandle, step: &mut FsPopResult)
-    ensures reported { ReportsWanted handle.now step.new }
+    ensures filled { FillsWanted handle.now step.new }
     ensures few { step.new.load_len ≤ 4096 }
 {
     *step = FsPopResult::nothing();
@@ -92,8 +92,8 @@ fn still_wanted(handle: &ChainHandle, step: &mut FsPopResult)
 }
 
 // The load that the pop still needs, and a status; nothing if its address isn't mapped.
-fn reported_load(handle: &ChainHandle, step: &mut FsPopResult) -> u32
-    ensures reported { ReportsLoad handle.now step.new result }
+fn fill_load(handle: &ChainHandle, step: &mut FsPopResult) -> u32
+    ensures filled { FillsLoad handle.now step.new result }
     ensures few { step.new.load_len ≤ 4096 }
 {
     *step = FsPopResult::nothing();
@@ -109,13 +109,13 @@ fn reported_load(handle: &ChainHandle, step: &mut FsPopResult) -> u32
 
 // A pop's result, as C gets it.
 #[inline(always)]
-fn reported(handle: &ChainHandle, outcome: LoadOutcome, step: &mut FsPopResult) -> u32
-    ensures reported { ReportsOutcome handle.now outcome step.new result }
+fn fill_outcome(handle: &ChainHandle, outcome: LoadOutcome, step: &mut FsPopResult) -> u32
+    ensures filled { FillsOutcome handle.now outcome step.new result }
     ensures few { step.new.load_len ≤ 4096 }
 {
     *step = FsPopResult::nothing();
     match outcome {
-        LoadOutcome::Part | LoadOutcome::On(PopOutcome::Load(_)) => reported_load(handle, step),
+        LoadOutcome::Part | LoadOutcome::On(PopOutcome::Load(_)) => fill_load(handle, step),
         LoadOutcome::On(PopOutcome::Idle) => IDLE,
         LoadOutcome::On(PopOutcome::Refused(error)) => u32::from(error.number()),
         LoadOutcome::On(PopOutcome::Missing { range, access }) => {
@@ -134,7 +134,7 @@ fn reported(handle: &ChainHandle, outcome: LoadOutcome, step: &mut FsPopResult) 
             step.head = head;
             step.request_len = request_len as u64;
             step.reply_len = room_len as u64;
-            step.ticket = handle.serial();
+            step.ticket = handle.ticket();
             0
         }
         LoadOutcome::On(PopOutcome::Faulty { head, fault }) => {
@@ -155,14 +155,14 @@ pub fn pop_handle(
     ensures pops { PopsHandle handle.old queue.old loaded.now step.new result handle.new queue.new }
     ensures few { step.new.load_len ≤ 4096 }
 {
-    let Some(mut preserved) = queue.begun() else {
+    let Some(mut checked) = queue.begun() else {
         *step = FsPopResult::nothing();
         return queue.unbegun();
     };
-    match handle.pop(&mut preserved, loaded) {
+    match handle.pop(&mut checked, loaded) {
         Ok(outcome) => {
-            queue.put(&preserved);
-            reported(handle, outcome, step)
+            queue.put(&checked);
+            fill_outcome(handle, outcome, step)
         }
         Err(error) => {
             still_wanted(handle, step);
@@ -184,14 +184,14 @@ pub fn pop_handle_ahead(
         handle.new queue.new }
     ensures few { step.new.load_len ≤ 4096 }
 {
-    let Some(mut preserved) = queue.begun() else {
+    let Some(mut checked) = queue.begun() else {
         *step = FsPopResult::nothing();
         return queue.unbegun();
     };
-    match handle.pop_ahead(&mut preserved, ahead, bytes) {
+    match handle.pop_ahead(&mut checked, ahead, bytes) {
         Ok(outcome) => {
-            queue.put(&preserved);
-            reported(handle, LoadOutcome::On(outcome), step)
+            queue.put(&checked);
+            fill_outcome(handle, LoadOutcome::On(outcome), step)
         }
         Err(error) => {
             still_wanted(handle, step);

@@ -1,9 +1,9 @@
 //! How a chain is pushed to its queue, and how it is dropped.
 
 ghost use Rattle.std.specs.Prelude.{◌≡◌, ◌<◌, None, IfSome};
-ghost use Rattle.fs_chain_c.specs.Pushing.{DropsHandleChain, DropsPreserved, EndsHandlePush, EndsPreserved};
-ghost use Rattle.fs_chain_c.specs.Pushing.{HaveNoPlaces, IsNotHere, PushesHandle, ReturnsPreserved};
-ghost use Rattle.fs_chain_c.specs.Pushing.{StandsHere, ReportsStores, no_stores};
+ghost use Rattle.fs_chain_c.specs.Pushing.{DropsHandleChain, DropsChecked, EndsHandlePush, EndsChecked};
+ghost use Rattle.fs_chain_c.specs.Pushing.{HaveNoPlaces, IsNotHere, PushesHandle, PushesChecked};
+ghost use Rattle.fs_chain_c.specs.Pushing.{StandsHere, FillsStores, no_stores};
 
 use crate::popping::NOT_MAPPED;
 use crate::queue::FsQueue;
@@ -74,8 +74,8 @@ pub(crate) fn here(
 
 // The stores of a push by their host addresses; None if one isn't mapped.
 #[inline(always)]
-fn reported_stores(handle: &ChainHandle, stores: &PushStores) -> Option<FsStores>
-    ensures some { IfSome result (ReportsStores handle.now.regions stores.now) }
+fn filled_stores(handle: &ChainHandle, stores: &PushStores) -> Option<FsStores>
+    ensures some { IfSome result (FillsStores handle.now.regions stores.now) }
     ensures none { result ≡ None → HaveNoPlaces handle.now.regions stores.now }
 {
     let used = &stores.used;
@@ -106,32 +106,32 @@ fn reported_stores(handle: &ChainHandle, stores: &PushStores) -> Option<FsStores
 }
 
 // Pushes a chain to the core's queue, and returns a status.
-fn return_preserved(
+fn push_from_checked(
     handle: &mut ChainHandle,
     queue: &mut FsQueue,
-    mut preserved: QueueState,
+    mut checked: QueueState,
     front: &mut [u8],
-    reported: &mut FsStores,
+    filled: &mut FsStores,
 ) -> u32
-    ensures { ReturnsPreserved handle.old queue.old preserved front.old reported.new result handle.new
+    ensures { PushesChecked handle.old queue.old checked front.old filled.new result handle.new
         queue.new front.new }
 {
-    match handle.push(&mut preserved, front) {
+    match handle.push(&mut checked, front) {
         Ok(stores) => {
-            queue.put(&preserved);
-            match reported_stores(handle, &stores) {
+            queue.put(&checked);
+            match filled_stores(handle, &stores) {
                 Some(found) => {
-                    *reported = found;
+                    *filled = found;
                     0
                 }
                 None => {
-                    *reported = FsStores::nothing();
+                    *filled = FsStores::nothing();
                     NOT_MAPPED
                 }
             }
         }
         Err(error) => {
-            *reported = FsStores::nothing();
+            *filled = FsStores::nothing();
             u32::from(error.number())
         }
     }
@@ -142,33 +142,33 @@ pub fn push_handle(
     handle: &mut ChainHandle,
     queue: &mut FsQueue,
     front: &mut [u8],
-    reported: &mut FsStores,
+    filled: &mut FsStores,
 ) -> u32
-    ensures { PushesHandle handle.old queue.old front.old reported.new result handle.new queue.new front.new }
+    ensures { PushesHandle handle.old queue.old front.old filled.new result handle.new queue.new front.new }
 {
-    match queue.preserved() {
-        Some(preserved) => return_preserved(handle, queue, preserved, front, reported),
+    match queue.checked() {
+        Some(checked) => push_from_checked(handle, queue, checked, front, filled),
         None => {
-            *reported = FsStores::nothing();
+            *filled = FsStores::nothing();
             queue.refusal()
         }
     }
 }
 
 // Ends the push of a chain of the core's queue.
-fn end_preserved(
+fn end_from_checked(
     handle: &mut ChainHandle,
     queue: &mut FsQueue,
-    mut preserved: QueueState,
+    mut checked: QueueState,
     seen: u16,
 ) -> (u8, u32)
-    ensures { EndsPreserved handle.old queue.old preserved seen result.0 result.1 handle.new queue.new }
+    ensures { EndsChecked handle.old queue.old checked seen result.0 result.1 handle.new queue.new }
 {
-    match handle.pushed(&mut preserved, seen.to_le_bytes()) {
-        Ok(reported) => {
-            queue.put(&preserved);
+    match handle.pushed(&mut checked, seen.to_le_bytes()) {
+        Ok(filled) => {
+            queue.put(&checked);
             handle.abandon();
-            (u8::from(reported), 0)
+            (u8::from(filled), 0)
         }
         Err(error) => (0, u32::from(error.number())),
     }
@@ -178,19 +178,19 @@ fn end_preserved(
 pub fn end_handle_push(handle: &mut ChainHandle, queue: &mut FsQueue, seen: u16) -> (u8, u32)
     ensures { EndsHandlePush handle.old queue.old seen result.0 result.1 handle.new queue.new }
 {
-    match queue.preserved() {
-        Some(preserved) => end_preserved(handle, queue, preserved, seen),
+    match queue.checked() {
+        Some(checked) => end_from_checked(handle, queue, checked, seen),
         None => (0, queue.refusal()),
     }
 }
 
 // Drops a chain, or ends a pop, over the core's queue.
-fn drop_preserved(handle: &mut ChainHandle, queue: &mut FsQueue, mut preserved: QueueState) -> u32
-    ensures { DropsPreserved handle.old queue.old preserved result handle.new queue.new }
+fn drop_from_checked(handle: &mut ChainHandle, queue: &mut FsQueue, mut checked: QueueState) -> u32
+    ensures { DropsChecked handle.old queue.old checked result handle.new queue.new }
 {
-    match handle.give_up(&mut preserved) {
+    match handle.give_up(&mut checked) {
         Ok(()) => {
-            queue.put(&preserved);
+            queue.put(&checked);
             handle.abandon();
             0
         }
@@ -207,8 +207,8 @@ pub fn drop_handle_chain(handle: &mut ChainHandle, queue: &mut FsQueue) -> u32
         handle.abandon();
         return 0;
     }
-    match queue.preserved() {
-        Some(preserved) => drop_preserved(handle, queue, preserved),
+    match queue.checked() {
+        Some(checked) => drop_from_checked(handle, queue, checked),
         None => queue.refusal(),
     }
 }

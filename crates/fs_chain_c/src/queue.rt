@@ -81,8 +81,8 @@ impl FsQueue {
 
     /// The queue as the core has it; None if these are no queue's numbers.
     #[inline(always)]
-    pub fn preserved(&self) -> Option<QueueState>
-        ensures preserved { IfSome result (IsQueueState self.now) }
+    pub fn checked(&self) -> Option<QueueState>
+        ensures checked { IfSome result (IsQueueState self.now) }
         ensures is { OnSome result (IsQueue self.now) }
         ensures none { IfNone result (IsQueue self.now → ⊥) }
     {
@@ -114,17 +114,17 @@ impl FsQueue {
     /// The same of a queue that was begun; None if its numbers were never set.
     #[inline(always)]
     pub fn begun(&self) -> Option<QueueState>
-        ensures preserved { IfSome result (IsQueueState self.now) }
+        ensures checked { IfSome result (IsQueueState self.now) }
         ensures is { OnSome result (IsBegun self.now) }
         ensures none { IfNone result (IsBegun self.now → ⊥) }
     {
-        let Some(preserved) = self.preserved() else {
+        let Some(checked) = self.checked() else {
             return None;
         };
         if self.reset_count == 0 {
             return None;
         }
-        Some(preserved)
+        Some(checked)
     }
 
     /// The status of numbers that aren't a queue's.
@@ -162,14 +162,14 @@ impl FsQueue {
     }
 
     /// Writes the numbers that a call changed to C's queue.
-    pub fn put(&mut self, preserved: &QueueState)
-        ensures { self.new ≡ put self.old preserved.now }
+    pub fn put(&mut self, checked: &QueueState)
+        ensures { self.new ≡ put self.old checked.now }
     {
-        self.next_avail = preserved.next_avail;
-        self.next_used = preserved.next_used;
-        self.pushing = u8::from(preserved.pushing);
-        self.pop_count = preserved.pop_count;
-        self.stopped = stop_number(&preserved.stopped);
+        self.next_avail = checked.next_avail;
+        self.next_used = checked.next_used;
+        self.pushing = u8::from(checked.pushing);
+        self.pop_count = checked.pop_count;
+        self.stopped = stop_number(&checked.stopped);
     }
 
     /// Resets the queue to a position, if its numbers are a queue's then: no chain of it is in flight.
@@ -183,7 +183,7 @@ impl FsQueue {
         fresh.pushing = 0;
         fresh.reset_count = self.reset_count.wrapping_add(1);
         fresh.stopped = 0;
-        if fresh.preserved().is_none() {
+        if fresh.checked().is_none() {
             return fresh.refusal();
         }
         *self = fresh;

@@ -15,7 +15,7 @@ use crate::device::FsDevice;
 use crate::queue::FsQueue;
 use crate::record_place::record_of;
 use crate::saved_bytes::SavedBytes;
-use crate::status::{BAD_DEVICE, Refusal};
+use crate::status::{BAD_DEVICE, StatusRefusal};
 use bitflags::Flags;
 use fs_chain::ChainError;
 use fs_queue::Queue;
@@ -39,32 +39,32 @@ fn queue_of(queue: &FsQueue) -> Result<Queue, ChainError>
     ensures out { result ≡ Err ChainInFlight → HasNoneOut queue.now → ⊥ }
     ensures err { IfErr result (λ e. (e ≡ BadArgument) ⊎ (e ≡ ChainInFlight)) }
 {
-    let Some(preserved) = queue.preserved() else {
+    let Some(checked) = queue.checked() else {
         return Err(ChainError::BadArgument);
     };
     if queue.in_flight() != 0 {
         return Err(ChainError::ChainInFlight);
     }
-    Ok(Queue::resume(preserved.layout, queue.next_avail, queue.stopped != 0))
+    Ok(Queue::resume(checked.layout, queue.next_avail, queue.stopped != 0))
 }
 
 // Why a record can't keep a queue; None if it can.
-fn queue_refusal(queue: &FsQueue) -> Option<Refusal>
+fn queue_refusal(queue: &FsQueue) -> Option<StatusRefusal>
     ensures is { result ≡ None → IsQueue queue.now }
     ensures none_out { result ≡ None → HasNoneOut queue.now }
     ensures refused { IfSome result (RefusesToSave queue.now) }
 {
-    if queue.preserved().is_none() {
-        return Some(Refusal::Invalid(queue.refusal()));
+    if queue.checked().is_none() {
+        return Some(StatusRefusal::Invalid(queue.refusal()));
     }
     if queue.in_flight() > 0 {
-        return Some(Refusal::Of(ChainError::ChainInFlight));
+        return Some(StatusRefusal::Of(ChainError::ChainInFlight));
     }
     None
 }
 
 // Why a record can't keep these queues: the reason of the first that it can't keep; None if it can.
-fn queues_refusal(queues: &[FsQueue]) -> Option<Refusal>
+fn queues_refusal(queues: &[FsQueue]) -> Option<StatusRefusal>
     ensures are { result ≡ None → All IsQueue queues.now }
     ensures none_out { result ≡ None → All HasNoneOut queues.now }
     ensures refused { IfSome result (RefusesQueues queues.now) }
@@ -119,37 +119,37 @@ pub fn save(
     device: &FsDevice,
     queues: &[FsQueue],
     buffer: &mut [u8],
-) -> (usize, Option<Refusal>)
+) -> (usize, Option<StatusRefusal>)
     ensures { SavesSo device.now queues.now buffer.old result.1 result.0 buffer.new }
 {
     if !device.is_lawful() {
-        return (0, Some(Refusal::Invalid(BAD_DEVICE)));
+        return (0, Some(StatusRefusal::Invalid(BAD_DEVICE)));
     }
     if queues.is_empty() || queues.len() > MOST_QUEUES {
-        return (0, Some(Refusal::Of(ChainError::BadArgument)));
+        return (0, Some(StatusRefusal::Of(ChainError::BadArgument)));
     }
     let Some(options) = options_of(device.options) else {
-        return (0, Some(Refusal::Of(ChainError::BadArgument)));
+        return (0, Some(StatusRefusal::Of(ChainError::BadArgument)));
     };
     if let Some(why) = queues_refusal(queues) {
         return (0, Some(why));
     }
     let queues = match queues_of(alloc, queues) {
         Ok(queues) => queues,
-        Err(error) => return (0, Some(Refusal::Of(error))),
+        Err(error) => return (0, Some(StatusRefusal::Of(error))),
     };
     let record = record_of(options, &queues, device.page_size, device.limit);
     let bytes = record.bytes.as_slice();
     let len = bytes.len();
     if len > buffer.len() {
-        return (len, Some(Refusal::Of(ChainError::ShortBuffer)));
+        return (len, Some(StatusRefusal::Of(ChainError::ShortBuffer)));
     }
     buffer[..len].copy_from_slice(bytes);
     (len, None)
 }
 
 /// The status of a saved record.
-pub fn saved_status(refused: Option<Refusal>) -> u32
+pub fn saved_status(refused: Option<StatusRefusal>) -> u32
     ensures { result ≡ saved_status refused }
 {
     match refused {
@@ -198,7 +198,7 @@ fn unfit_status(queues: &[FsQueue], restored: &[Queue]) -> Option<u32>
 {
     for k in 0..restored.len() {
         let over = numbers_over(&queues[k], &restored[k]);
-        if over.preserved().is_none() {
+        if over.checked().is_none() {
             return Some(over.refusal());
         }
     }

@@ -38,7 +38,7 @@ fn is_long(handle: &ChainHandle, ticket: u32, len: usize) -> bool
     ensures { result ≡ is_long handle.now ticket len }
 {
     match handle.read_limit() {
-        Some(most) => handle.serial() == ticket && most < len,
+        Some(most) => handle.ticket() == ticket && most < len,
         None => false,
     }
 }

@@ -7,7 +7,7 @@ ghost use Rattle.fs_chain_c.specs.Handles.{RefusesNew, SetsHandle, NumbersHandle
 use crate::device::FsDevice;
 use crate::handle::FsChain;
 use crate::memory::{FsRegion, memory_of};
-use crate::status::{BAD_DEVICE, Refusal};
+use crate::status::{BAD_DEVICE, StatusRefusal};
 use fs_chain::{ChainError, ChainHandle};
 use fs_regions::GuestMap;
 use memory_requests::boxed;
@@ -19,18 +19,18 @@ fn go_over(
     handle: &mut ChainHandle,
     device: &FsDevice,
     regions: &[FsRegion],
-) -> Result<(), Refusal>
+) -> Result<(), StatusRefusal>
     ensures ok { OnOk result (ProceedsOver handle.old device.now regions.now handle.new) }
     ensures refused { IfErr result (RefusesMemory handle.old device.now regions.now) }
     ensures same { OnErr result (handle.new ≡ handle.old) }
 {
     if !device.is_lawful() {
-        return Err(Refusal::Invalid(BAD_DEVICE));
+        return Err(StatusRefusal::Invalid(BAD_DEVICE));
     }
     match memory_of(alloc, regions) {
         Ok(memory) => match handle.set_memory(GuestMap::of_regions(memory), device.limit) {
             Ok(()) => Ok(()),
-            Err(error) => Err(Refusal::Of(error)),
+            Err(error) => Err(StatusRefusal::Of(error)),
         },
         Err(refusal) => Err(refusal),
     }
@@ -52,23 +52,27 @@ pub fn set_handle(
 }
 
 // A new handle over these regions, with the device's limit.
-fn made(alloc: Global, device: &FsDevice, regions: &[FsRegion]) -> Result<Box<ChainHandle>, Refusal>
+fn made(
+    alloc: Global,
+    device: &FsDevice,
+    regions: &[FsRegion],
+) -> Result<Box<ChainHandle>, StatusRefusal>
     ensures ok { IfOk result (λ made. (b : ChainHandle)
         × IsNewHandle b
         × ProceedsOver b device.now regions.now made.value) }
     ensures refused { IfErr result (RefusesNew device.now regions.now) }
 {
     if !device.is_lawful() {
-        return Err(Refusal::Invalid(BAD_DEVICE));
+        return Err(StatusRefusal::Invalid(BAD_DEVICE));
     }
     let memory = memory_of(alloc, regions)?;
     let mut handle = ChainHandle::new(alloc);
     match handle.set_memory(GuestMap::of_regions(memory), device.limit) {
         Ok(()) => match boxed(alloc, handle) {
             Ok(handle) => Ok(handle),
-            Err(_) => Err(Refusal::Of(ChainError::OutOfMemory)),
+            Err(_) => Err(StatusRefusal::Of(ChainError::OutOfMemory)),
         },
-        Err(error) => Err(Refusal::Of(error)),
+        Err(error) => Err(StatusRefusal::Of(error)),
     }
 }
 

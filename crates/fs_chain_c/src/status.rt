@@ -52,21 +52,21 @@ pub const REGIONS_OVERLAP: u32 = 110;
 
 /// Why a call of C's changed nothing.
 #[derive(Clone, Copy, Debug)]
-pub enum Refusal {
+pub enum StatusRefusal {
     /// An error of the handle, or of an allocation.
     Of(ChainError),
     /// Numbers that aren't valid, by their status.
     Invalid(u32),
 }
 
-impl Refusal {
+impl StatusRefusal {
     /// Its status.
     pub fn status(&self) -> u32
         ensures { result ≡ refusal_status self.now }
     {
         match self {
-            Refusal::Of(error) => u32::from(error.number()),
-            Refusal::Invalid(status) => *status,
+            StatusRefusal::Of(error) => u32::from(error.number()),
+            StatusRefusal::Invalid(status) => *status,
         }
     }
 }

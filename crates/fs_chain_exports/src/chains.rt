@@ -234,8 +234,8 @@ pub extern "C" fn pk_pushed(
         *notify = 0;
         return wrong_order();
     };
-    let (reported, status) = end_handle_push(&mut handle, queue, seen);
-    *notify = reported;
+    let (returned, status) = end_handle_push(&mut handle, queue, seen);
+    *notify = returned;
     *chain = FsChain::of_box(handle);
     status
 }

@@ -3,7 +3,7 @@
 ghost use Rattle.std.specs.Prelude.{◌≡◌};
 ghost use Rattle.fs_chain_c.specs.Handles.{OnHandle};
 ghost use Rattle.fs_chain_c.specs.Iotlbs.{ExchangesTables, IsNoPlace, MakesTable, MapsTable, UnmapsTable};
-ghost use Rattle.fs_chain_c.specs.Iotlbs.{ReportsMiss, ReportsUse, no_miss};
+ghost use Rattle.fs_chain_c.specs.Iotlbs.{FillsMiss, ReportsUse, no_miss};
 ghost use Rattle.fs_chain.specs.Numbers.{chain_error_number};
 ghost use Rattle.fs_chain.specs.declared.error.ChainError.TheVariants.{WrongOrder};
 
@@ -95,7 +95,7 @@ pub extern "C" fn pk_find_miss(
     from: u64,
     miss: &mut FsMiss,
 ) -> u32
-    ensures { OnHandle (λ b b'. ReportsMiss b index from result miss.new × (b' ≡ b))
+    ensures { OnHandle (λ b b'. FillsMiss b index from result miss.new × (b' ≡ b))
         ((result ≡ chain_error_number WrongOrder) × (miss.new ≡ no_miss))
         chain.old.held.value chain.new.held.value }
 {
@@ -103,8 +103,8 @@ pub extern "C" fn pk_find_miss(
         *miss = FsMiss::nothing();
         return wrong_order();
     };
-    let (reported, status) = miss_of(&handle, index, from);
-    *miss = reported;
+    let (returned, status) = miss_of(&handle, index, from);
+    *miss = returned;
     *chain = FsChain::of_box(handle);
     status
 }
@@ -118,7 +118,7 @@ pub extern "C" fn pk_uses(alloc: Global, chain: &mut FsChain, iova: u64, len: u6
     let Some(handle) = chain.take(alloc) else {
         return 0;
     };
-    let reported = use_of(&handle, iova, len);
+    let returned = use_of(&handle, iova, len);
     *chain = FsChain::of_box(handle);
-    reported
+    returned
 }

@@ -88,8 +88,8 @@ pub extern "C" fn pk_reply_entries(
         *len = 0;
         return wrong_order();
     };
-    let (status, reported) = end_listing(&mut handle, ticket);
-    *len = reported;
+    let (status, returned) = end_listing(&mut handle, ticket);
+    *len = returned;
     *chain = FsChain::of_box(handle);
     status
 }

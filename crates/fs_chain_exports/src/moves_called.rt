@@ -21,7 +21,7 @@ fn are_queues(queues: &[FsQueue]) -> bool
         let _size = queue.size;
         let _next = queue.next_avail;
         let _used = queue.next_used;
-        let Some(_state) = queue.preserved() else {
+        let Some(_state) = queue.checked() else {
             return false;
         };
     }

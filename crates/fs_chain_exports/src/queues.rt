@@ -2,7 +2,7 @@
 
 ghost use Rattle.fs_chain_c.specs.Queues.{BeginsQueue};
 ghost use Rattle.fs_chain_c.specs.Records.{Restores, Saves};
-ghost use Rattle.fs_chain_c.specs.Notifications.{AsksKicks};
+ghost use Rattle.fs_chain_c.specs.Notifications.{SetsNotifying};
 
 use fs_chain_c::device::FsDevice;
 use fs_chain_c::handle::FsChain;
@@ -31,14 +31,14 @@ pub extern "C" fn pk_set_notification(
     enabled: u32,
     store: &mut FsStore,
 ) -> u32
-    ensures { AsksKicks chain.old.held.value queue.now enabled result store.new chain.new.held.value }
+    ensures { SetsNotifying chain.old.held.value queue.now enabled result store.new chain.new.held.value }
 {
     let Some(handle) = chain.take(alloc) else {
         *store = FsStore::nothing();
         return wrong_order();
     };
-    let (reported, status) = set_notification(&handle, queue, enabled);
-    *store = reported;
+    let (returned, status) = set_notification(&handle, queue, enabled);
+    *store = returned;
     *chain = FsChain::of_box(handle);
     status
 }
@@ -54,8 +54,8 @@ pub extern "C" fn pk_save(
 ) -> u32
     ensures { Saves device.now queues.now buffer.old result len.new buffer.new }
 {
-    let (reported, refused) = save(alloc, device, queues, buffer);
-    *len = reported;
+    let (returned, refused) = save(alloc, device, queues, buffer);
+    *len = returned;
     saved_status(refused)
 }
 

@@ -222,19 +222,19 @@ record RingCame (m : Memory) (q : Queue) (index entry : Option (List ℕ)) (w : 
   waits : w ≡ next_avail m q
   reads : ring_reads q w ≡ came_at (avail_index_at q) index ++ came_at (ring_entry_at q) entry
 
-reported : (P : NextAvail → Type 0) (entry : Option (List ℕ)) (one two w : NextAvail) (a b c : Bool) → (b ≡ false → entry ≡ None → P one) →
+by_ring : (P : NextAvail → Type 0) (entry : Option (List ℕ)) (one two w : NextAvail) (a b c : Bool) → (b ≡ false → entry ≡ None → P one) →
     (b ≡ true → P two) →
     (if not a then None else if not b then without_entry entry one else if not c then None else Some two) ≡ Some w → P w
-reported P None one two w true false c p s e = let same : one ≡ w = cc in subst P same (p refl refl)
-reported P entry one two w true true true p s e = let same : two ≡ w = cc in subst P same (s refl)
-reported P _ one two w _ _ _ p s e = absurd (cc)
+by_ring P None one two w true false c p s e = let same : one ≡ w = cc in subst P same (p refl refl)
+by_ring P entry one two w true true true p s e = let same : two ≡ w = cc in subst P same (s refl)
+by_ring P _ one two w _ _ _ p s e = absurd (cc)
 
 ring_came : (m : Memory) (q : Queue) (index entry : Option (List ℕ)) (w : NextAvail) → IsLoadOf m 2 (index_load q index) →
     (asks_entry (alone q index) ≡ true → IsLoadOf m 2 (entry_load q entry)) →
     available_by q index entry ≡ Some w → RingCame m q index entry w
 ring_came m q index entry w is es e =
     let in_memory = if reach m Read (ring_entry_at q) 2 then Some (bytes m (ring_entry_at q) 2) else None in
-    reported (RingCame m q index entry) entry (alone q index) (both q index entry) w (is_whole 2 index) (asks_entry (alone q index))
+    by_ring (RingCame m q index entry) entry (alone q index) (both q index entry) w (is_whole 2 index) (asks_entry (alone q index))
     (is_whole 2 entry)
     (λ asks none. record {
       waits = (ring_is_still m q index in_memory is refl).alone asks;
@@ -319,12 +319,12 @@ module _ (m : Memory) (q : Queue) (head : ℕ) (ls : List Load) where
   refused_came : (request : List ℕ) (e : QueueError) (o : Offer) → chain_reads m q head (Refuses e) ≡ [] →
       without_chain ls request (Refuses e) ≡ Some o → Came request o
   refused_came request e o none is =
-      subst (λ (x : Offer). chain_reads m q head x ≡ []) (preserved ls request is) none ∙ sym (no_chain q ls request (Refuses e) o is)
+      subst (λ (x : Offer). chain_reads m q head x ≡ []) (kept ls request is) none ∙ sym (no_chain q ls request (Refuses e) o is)
     where
-      preserved : (ks : List Load) (bs : List ℕ) → without_chain ks bs (Refuses e) ≡ Some o → Refuses e ≡ o
-      preserved [] [] h = cc
-      preserved [] (b ∷ bs) h = absurd (cc)
-      preserved (k ∷ ks) bs h = absurd (cc)
+      kept : (ks : List Load) (bs : List ℕ) → without_chain ks bs (Refuses e) ≡ Some o → Refuses e ≡ o
+      kept [] [] h = cc
+      kept [] (b ∷ bs) h = absurd (cc)
+      kept (k ∷ ks) bs h = absurd (cc)
 
 -- ---- the offer
 

@@ -233,11 +233,11 @@ agree_stored ws m n same as' agree =
     (agree_later (places_for m Write (map (λ w. w.0) ws)) (places_for m Read as') (stores_keep ws m n same) agree)
 
 -- a new block is the same in both hosts, and no byte that was there changes
-block_preserved : (l : List Block) (b : Block) (block offset byte : ℕ) → byte_in_block offset (slice_get l block) ≡ Some byte →
+block_kept : (l : List Block) (b : Block) (block offset byte : ℕ) → byte_in_block offset (slice_get l block) ≡ Some byte →
     byte_in_block offset (slice_get (l ++ b ∷ []) block) ≡ Some byte
-block_preserved [] b block offset byte e = absurd (cc)
-block_preserved (x ∷ l) b zero offset byte e = e
-block_preserved (x ∷ l) b (suc block) offset byte e = block_preserved l b block offset byte e
+block_kept [] b block offset byte e = absurd (cc)
+block_kept (x ∷ l) b zero offset byte e = e
+block_kept (x ∷ l) b (suc block) offset byte e = block_kept l b block offset byte e
 
 more_same : (l k : List Block) (b : Block) (block offset : ℕ) → map zeroed l ≡ map zeroed k →
     byte_in_block offset (slice_get l block) ≡ byte_in_block offset (slice_get k block) →
@@ -251,8 +251,8 @@ pub block_keeps : (g h : Host) (b : Block) → without_bytes g ≡ without_bytes
 block_keeps g h b same = record {
   same = λ block offset e. more_same g.blocks h.blocks b block offset (ap (λ (k : Host). k.blocks) same) e;
   new = λ block offset e. absurd (cc);
-  old = λ block offset byte e is. block_preserved g.blocks b block offset byte is;
-  other_old = λ block offset byte e is. block_preserved h.blocks b block offset byte is;
+  old = λ block offset byte e is. block_kept g.blocks b block offset byte is;
+  other_old = λ block offset byte e is. block_kept h.blocks b block offset byte is;
 }
 
 pub block_aside : (h : Host) (b : Block) → without_bytes (with_block h b) ≡ with_block (without_bytes h) (zeroed b)

@@ -57,19 +57,19 @@ either_as : {F : Type 0} (g h : Host) (ps : List Place) (b c : Bool) (x y z w : 
 either_as g h ps b c x y z w same p q =
     subst (λ (c : Bool). EffectFollows g h ps (if b then x else y) (if c then z else w)) same (either_follows g h ps b x y z w p q)
 
-zeros_preserved : (o : List ℕ) → length (map {B = ℕ} (λ _. 0) o) ≡ length o
-zeros_preserved o = length-map o (λ _. 0)
+zeros_kept : (o : List ℕ) → length (map {B = ℕ} (λ _. 0) o) ≡ length o
+zeros_kept o = length-map o (λ _. 0)
 
-len_preserved : (n : ℕ) (o : Option Block) → has_len n (option_map zeroed o) ≡ has_len n o
-len_preserved n None = refl
-len_preserved n (Some b) = ap (λ (k : ℕ). k == n) (zeros_preserved b.bytes)
+len_kept : (n : ℕ) (o : Option Block) → has_len n (option_map zeroed o) ≡ has_len n o
+len_kept n None = refl
+len_kept n (Some b) = ap (λ (k : ℕ). k == n) (zeros_kept b.bytes)
 
-known_preserved : (h : Host) (r : Region) → is_known (without_bytes h) r ≡ is_known h r
-known_preserved h r = ap (has_len r.size) (slice_get-map zeroed h.blocks r.block) ∙ len_preserved r.size (slice_get h.blocks r.block)
+known_kept : (h : Host) (r : Region) → is_known (without_bytes h) r ≡ is_known h r
+known_kept h r = ap (has_len r.size) (slice_get-map zeroed h.blocks r.block) ∙ len_kept r.size (slice_get h.blocks r.block)
 
 long_alike : (b c : Block) → Some (zeroed b) ≡ Some (zeroed c) → length b.bytes ≡ length c.bytes
 long_alike b c is =
-    sym (zeros_preserved b.bytes) ∙ ap (λ (o : Option Block). unwrap_or (option_map (λ b. length b.bytes) o) 0) is ∙ zeros_preserved c.bytes
+    sym (zeros_kept b.bytes) ∙ ap (λ (o : Option Block). unwrap_or (option_map (λ b. length b.bytes) o) 0) is ∙ zeros_kept c.bytes
 
 proceeds_alike : (layout : List Region) (base block : ℕ) (o p : Option Block) → option_map zeroed o ≡ option_map zeroed p →
     block_fits_in layout base block o ≡ block_fits_in layout base block p
@@ -100,9 +100,9 @@ module _ {F : Type 0} (s : State F) (h : Host) (same : without_bytes s.memory.ho
   done_follows k l alike bytes = record { answer = refl; state = alike; bytes = bytes }
 
   -- where the host stays as it is
-  preserved_follows : (k l : State F) → SameButBytes k l → k.memory.host ≡ s.memory.host → l.memory.host ≡ h
+  kept_follows : (k l : State F) → SameButBytes k l → k.memory.host ≡ s.memory.host → l.memory.host ≡ h
       → Same (run.Done, k) (run.Done, l)
-  preserved_follows k l alike at_s at_h =
+  kept_follows k l alike at_s at_h =
       done_follows k l alike
       (subst (λ (g : Host). KeepDifference s.memory.host h g l.memory.host []) (sym at_s)
       (subst (λ (g : Host). KeepDifference s.memory.host h s.memory.host g [])
@@ -126,7 +126,7 @@ module _ {F : Type 0} (s : State F) (h : Host) (same : without_bytes s.memory.ho
   insert_follows r =
       either_follows s.memory.host h [] (not (fits r)) _ _ _ _ (refused_follows why.BadRegion)
       (either_follows s.memory.host h [] (list_any (overlap r) s.memory.layout) _ _ _ _ (refused_follows why.Overlap)
-      (preserved_follows _ _ (ap (with_host (with_layout s (with_region r s.memory.layout))) same) refl refl))
+      (kept_follows _ _ (ap (with_host (with_layout s (with_region r s.memory.layout))) same) refl refl))
 
   region_follows : (base block : ℕ) (o p : Option Block) → option_map zeroed o ≡ option_map zeroed p →
       Same (insert_block s base block o) (insert_block (with_host s h) base block p)
@@ -144,22 +144,22 @@ module _ {F : Type 0} (s : State F) (h : Host) (same : without_bytes s.memory.ho
   remove_follows : (base size : ℕ) → Same (remove_region s base size) (remove_region (with_host s h) base size)
   remove_follows base size =
       either_follows s.memory.host h [] (list_any (is_region base size) s.memory.layout) _ _ _ _
-      (preserved_follows _ _ (ap (with_host (with_layout s (without_region base size s.memory.layout))) same) refl refl)
+      (kept_follows _ _ (ap (with_host (with_layout s (without_region base size s.memory.layout))) same) refl refl)
       (refused_follows why.NoRegion)
 
   layout_follows : (layout : List Region) → Same (set_layout s layout) (set_layout (with_host s h) layout)
   layout_follows layout =
       let known : is_known s.memory.host ≡ is_known h =
-      sym (fun_ext (known_preserved s.memory.host)) ∙ ap is_known same ∙ fun_ext (known_preserved h) in
+      sym (fun_ext (known_kept s.memory.host)) ∙ ap is_known same ∙ fun_ext (known_kept h) in
       either_as s.memory.host h [] _ _ _ _ _ _ (ap (λ (f : Region → Bool). not (list_all f layout)) known)
       (refused_follows why.UnknownBlock)
       (either_follows s.memory.host h [] (not (list_all fits layout)) _ _ _ _ (refused_follows why.BadRegion)
       (either_follows s.memory.host h [] (some_overlap layout) _ _ _ _ (refused_follows why.Overlap)
-      (preserved_follows _ _ (ap (with_host (with_layout s layout)) same) refl refl)))
+      (kept_follows _ _ (ap (with_host (with_layout s layout)) same) refl refl)))
 
   reset_follows : (i : ℕ) (anew : Queue) (o : Option Queue) → Same (reset s i anew o) (reset (with_host s h) i anew o)
   reset_follows i anew None = refused_follows why.NoSuchQueue
-  reset_follows i anew (Some q) = preserved_follows _ _ (ap (with_host (with_queue s i anew)) same) refl refl
+  reset_follows i anew (Some q) = kept_follows _ _ (ap (with_host (with_queue s i anew)) same) refl refl
 
   -- by what was decided, what is decided over the other host
   decided_follows :
@@ -186,9 +186,9 @@ module _ {F : Type 0} (s : State F) (h : Host) (same : without_bytes s.memory.ho
       else no why.NoPlace (with_host s h))) s h after []
   read_follows a n false answer after agree t = decided_follows [] _ _ answer after (refused_follows why.NoPlace) t
   read_follows a n true answer after agree t =
-      let reported : answer ≡ run.Bytes (map (byte (physical s.memory)) (addresses a n)) = ap (λ (z : Effect F). z.0) t in
+      let turns : answer ≡ run.Bytes (map (byte (physical s.memory)) (addresses a n)) = ap (λ (z : Effect F). z.0) t in
       let agreed : AgreeOn s.memory.host h (places_for (physical s.memory) Read (addresses a n)) =
-      subst (λ (k : Answer). AgreeOn s.memory.host h (guest_reads s a n k).read) reported agree in
+      subst (λ (k : Answer). AgreeOn s.memory.host h (guest_reads s a n k).read) turns agree in
       decided_follows [] _ _ answer after
       (record {
         answer = ap run.Bytes (bytes_same (physical s.memory) h same (addresses a n) agreed);
@@ -202,18 +202,18 @@ module _ {F : Type 0} (s : State F) (h : Host) (same : without_bytes s.memory.ho
       else no why.NoPlace (with_host s h))) s h after
       (guest_writes s a (length bs) answer).written
   write_follows a bs false answer after t =
-      let reported : answer ≡ run.IsRefused why.NoPlace = ap (λ (z : Effect F). z.0) t in
+      let turns : answer ≡ run.IsRefused why.NoPlace = ap (λ (z : Effect F). z.0) t in
       subst (λ (k : Answer). Follows (λ end. IsDecided (Some (no why.NoPlace (with_host s h))) answer end) s h after
-      (guest_writes s a (length bs) k).written) (sym reported)
+      (guest_writes s a (length bs) k).written) (sym turns)
       (decided_follows [] _ _ answer after (refused_follows why.NoPlace) t)
   write_follows a bs true answer after t =
-      let reported : answer ≡ run.Done = ap (λ (z : Effect F). z.0) t in
+      let turns : answer ≡ run.Done = ap (λ (z : Effect F). z.0) t in
       let ws = zip (addresses a (length bs)) bs in
       let new = stores_aside ws (physical s.memory) (physical (with_host s h).memory) physical_bare in
-      let preserved = stores_keep ws (physical s.memory) (physical (with_host s h).memory) physical_bare in
+      let kept = stores_keep ws (physical s.memory) (physical (with_host s h).memory) physical_bare in
       subst (λ (k : Answer).
       Follows (λ end. IsDecided (Some (run.Done, record s { memory = guest_written (with_host s h).memory a bs })) answer end) s h after
-      (guest_writes s a (length bs) k).written) (sym reported)
+      (guest_writes s a (length bs) k).written) (sym turns)
       (decided_follows _ _ _ answer after
       (record {
         answer = refl;
@@ -221,7 +221,7 @@ module _ {F : Type 0} (s : State F) (h : Host) (same : without_bytes s.memory.ho
         bytes = subst (λ (as' : List ℕ). KeepDifference s.memory.host h (stored_all (physical s.memory) ws).host
             (stored_all (physical (with_host s h).memory) ws).host
             (places_for (physical s.memory) Write as'))
-            (firsts-zip (addresses a (length bs)) bs (sym (length-addresses (length bs) a))) preserved;
+            (firsts-zip (addresses a (length bs)) bs (sym (length-addresses (length bs) a))) kept;
       }) t)
 
   -- ---- tables
@@ -281,18 +281,18 @@ module _ {F : Type 0} (s : State F) (h : Host) (same : without_bytes s.memory.ho
   affect_follows run.UnmapAll answer after few agree t = change_follows true nothing_mapped answer after t
   affect_follows (run.SetIommu on) answer after few agree t =
       decided_follows [] _ _ answer after
-      (preserved_follows _ _ (ap (λ (k : Host). record s { memory = record s.memory { host = k; translates = on } }) same) refl refl) t
+      (kept_follows _ _ (ap (λ (k : Host). record s { memory = record s.memory { host = k; translates = on } }) same) refl refl) t
   affect_follows (run.Kick i most) answer after few agree t = absurd t
   affect_follows (run.ResetQueue queue size desc avail used) answer after few agree t =
       decided_follows [] _ _ answer after (reset_follows queue (fresh size desc avail used) _) t
   affect_follows _ answer after few agree t = absurd (cc)
 
-  effect_follows : (command : Command) (reported : Turns) (answer : Answer) (after : State F) → IsTrue (not (copies command)) →
+  effect_follows : (command : Command) (turns : Turns) (answer : Answer) (after : State F) → IsTrue (not (copies command)) →
       AgreeOn s.memory.host h (plain_touches s command answer).read →
-      HasEffect s command reported answer after →
-      Follows (λ end. HasEffect (with_host s h) command reported answer end) s h after (plain_touches s command answer).written
+      HasEffect s command turns answer after →
+      Follows (λ end. HasEffect (with_host s h) command turns answer end) s h after (plain_touches s command answer).written
   effect_follows command [] answer after few agree t = affect_follows command answer after few agree t
-  effect_follows command (x ∷ reported) answer after few agree t = absurd t
+  effect_follows command (x ∷ turns) answer after few agree t = absurd t
 
   takes_alike : (command : Command) → command_takes_memory s command ≡ command_takes_memory (with_host s h) command
   takes_alike (run.GuestRead a n) = ap (λ (r : ℕ → ℕ → Bool). nat_lt 0 n && r a n) (reach_same Read)
@@ -303,10 +303,10 @@ module _ {F : Type 0} (s : State F) (h : Host) (same : without_bytes s.memory.ho
   takes_alike (run.Unmap iova n) = ap (λ (t : Table). (nat_lt 0 n && ends_fit iova n) && carries_on_at t (iova + n)) table_alike
   takes_alike _ = refl
 
-  lack_follows : (command : Command) (reported : Turns) (after : State F) → LacksMemory s command reported after →
-      Follows (λ end. LacksMemory (with_host s h) command reported end) s h after []
+  lack_follows : (command : Command) (turns : Turns) (after : State F) → LacksMemory s command turns after →
+      Follows (λ end. LacksMemory (with_host s h) command turns end) s h after []
   lack_follows command [] after t = stays s h same _ after t.1 (subst IsTrue (takes_alike command) t.0, refl)
-  lack_follows command (x ∷ reported) after t = absurd t
+  lack_follows command (x ∷ turns) after t = absurd t
 
   plain_same : (command : Command) (answer : Answer) → plain_touches (with_host s h) command answer ≡ plain_touches s command answer
   plain_same (run.GuestRead a n) (run.Bytes bytes) =
@@ -334,24 +334,24 @@ PlainFollows {F} Can s h command answer after =
     (plain_touches s command answer).written
 
 module _ {F : Type 0} (may : May F) (s : State F) (h : Host) (same : without_bytes s.memory.host ≡ without_bytes h) where
-  does_follow : (command : Command) (reported : Turns) (answer : Answer) (after : State F) → IsTrue (not (is_kick command)) →
+  does_follow : (command : Command) (turns : Turns) (answer : Answer) (after : State F) → IsTrue (not (is_kick command)) →
       IsTrue (not (copies command)) →
       AgreeOn s.memory.host h (plain_touches s command answer).read →
-      Does may s command reported answer after → PlainFollows (λ from end. Does may from command reported answer end) s h command answer
+      Does may s command turns answer after → PlainFollows (λ from end. Does may from command turns answer end) s h command answer
       after
-  does_follow (run.Kick i most) reported answer after plain few agree t = absurd (cc)
-  does_follow command reported answer after plain few agree t =
-      let done = effect_follows s h same command reported answer after few agree t in
+  does_follow (run.Kick i most) turns answer after plain few agree t = absurd (cc)
+  does_follow command turns answer after plain few agree t =
+      let done = effect_follows s h same command turns answer after few agree t in
       record { end = done.end; can = (done.can, plain_same s h same command answer); rest = done.rest; bytes = done.bytes }
 
   plain_follows :
-      (command : Command) (reported : Turns) (answer : Answer) (after : State F) → IsTrue (not (is_kick command)) →
+      (command : Command) (turns : Turns) (answer : Answer) (after : State F) → IsTrue (not (is_kick command)) →
       IsTrue (not (copies command)) →
       AgreeOn s.memory.host h (plain_touches s command answer).read →
-      Performs may s command reported answer after →
-      PlainFollows (λ from end. Performs may from command reported answer end) s h command answer after
-  plain_follows command reported (run.IsRefused why.OutOfMemory) after plain few agree t =
-      let done = lack_follows s h same command reported after t in
+      Performs may s command turns answer after →
+      PlainFollows (λ from end. Performs may from command turns answer end) s h command answer after
+  plain_follows command turns (run.IsRefused why.OutOfMemory) after plain few agree t =
+      let done = lack_follows s h same command turns after t in
       record {
         end = done.end;
         can = (done.can, plain_same s h same command (run.IsRefused why.OutOfMemory));
@@ -359,56 +359,56 @@ module _ {F : Type 0} (may : May F) (s : State F) (h : Host) (same : without_byt
         bytes = subst (λ (k : Touched). KeepDifference s.memory.host h after.memory.host done.end.memory.host k.written)
             (sym (refused_nothing s command why.OutOfMemory)) done.bytes;
       }
-  plain_follows command reported answer after plain few agree t = does_follow command reported answer after plain few agree t
+  plain_follows command turns answer after plain few agree t = does_follow command turns answer after plain few agree t
 
 -- what is touched in two ways that are the same
 module _ {F : Type 0} (may : May F) where
   -- a command may be answered so from another state, where it touches the same
-  abbrev CommandFollows : (s t : State F) (command : Command) (reported : Turns) (answer : Answer) (after : State F) →
-      Performs may s command reported answer after → Type 0
-  CommandFollows s t command reported answer after done =
-      Follows (λ end. (other : Performs may t command reported answer end) ×
-      (command_touches may t command reported answer end other ≡ command_touches may s command reported answer after done)) s t.memory.host
+  abbrev CommandFollows : (s t : State F) (command : Command) (turns : Turns) (answer : Answer) (after : State F) →
+      Performs may s command turns answer after → Type 0
+  CommandFollows s t command turns answer after done =
+      Follows (λ end. (other : Performs may t command turns answer end) ×
+      (command_touches may t command turns answer end other ≡ command_touches may s command turns answer after done)) s t.memory.host
       after
-      (command_touches may s command reported answer after done).written
+      (command_touches may s command turns answer after done).written
 
   kick_answered : (s t : State F) → SameButBytes s t →
-      (i most : ℕ) (reported : Turns) (answer : Answer) (after : State F) (done : Performs may s (run.Kick i most) reported answer after) →
-      AgreeOn s.memory.host t.memory.host (command_touches may s (run.Kick i most) reported answer after done).read →
-      CommandFollows s t (run.Kick i most) reported answer after done
-  kick_answered s t same i most reported (run.Served k) after done agree =
+      (i most : ℕ) (turns : Turns) (answer : Answer) (after : State F) (done : Performs may s (run.Kick i most) turns answer after) →
+      AgreeOn s.memory.host t.memory.host (command_touches may s (run.Kick i most) turns answer after done).read →
+      CommandFollows s t (run.Kick i most) turns answer after done
+  kick_answered s t same i most turns (run.Served k) after done agree =
       over_host s t
-      (λ (u : State F). AgreeOn s.memory.host u.memory.host (command_touches may s (run.Kick i most) reported (run.Served k) after
+      (λ (u : State F). AgreeOn s.memory.host u.memory.host (command_touches may s (run.Kick i most) turns (run.Served k) after
       done).read →
-      CommandFollows s u (run.Kick i most) reported (run.Served k) after done) same
-      (λ h is alike agree. kicks_follow may s (with_host s h) (same_state s h alike) i most (slice_get s.queues i) reported k after done
+      CommandFollows s u (run.Kick i most) turns (run.Served k) after done) same
+      (λ h is alike agree. kicks_follow may s (with_host s h) (same_state s h alike) i most (slice_get s.queues i) turns k after done
       agree)
       agree
-  kick_answered s t same i most reported (run.IsRefused why.OutOfMemory) after done agree =
-      over_host s t (λ (u : State F). CommandFollows s u (run.Kick i most) reported (run.IsRefused why.OutOfMemory) after done) same
+  kick_answered s t same i most turns (run.IsRefused why.OutOfMemory) after done agree =
+      over_host s t (λ (u : State F). CommandFollows s u (run.Kick i most) turns (run.IsRefused why.OutOfMemory) after done) same
       (λ h is alike.
-      let lacks = lack_follows s h alike (run.Kick i most) reported after done in
+      let lacks = lack_follows s h alike (run.Kick i most) turns after done in
       record { end = lacks.end; can = (lacks.can, refl); rest = lacks.rest; bytes = lacks.bytes })
-  kick_answered s t same i most reported answer after done agree = absurd done
+  kick_answered s t same i most turns answer after done agree = absurd done
 
-  command_follows : (s t : State F) → SameButBytes s t → (command : Command) (reported : Turns) (answer : Answer) (after : State F)
-      (done : Performs may s command reported answer after) → IsTrue (not (copies command)) →
-      AgreeOn s.memory.host t.memory.host (command_touches may s command reported answer after done).read →
-      CommandFollows s t command reported answer after done
-  command_follows s t same (run.Kick i most) reported answer after done few agree =
-      kick_answered s t same i most reported answer after done agree
-  command_follows s t same command reported answer after done few agree =
-      over_host s t (λ (u : State F). AgreeOn s.memory.host u.memory.host (command_touches may s command reported answer after done).read →
-      CommandFollows s u command reported answer after done) same
-      (λ h is alike agree. plain_follows may s h alike command reported answer after refl few agree done) agree
+  command_follows : (s t : State F) → SameButBytes s t → (command : Command) (turns : Turns) (answer : Answer) (after : State F)
+      (done : Performs may s command turns answer after) → IsTrue (not (copies command)) →
+      AgreeOn s.memory.host t.memory.host (command_touches may s command turns answer after done).read →
+      CommandFollows s t command turns answer after done
+  command_follows s t same (run.Kick i most) turns answer after done few agree =
+      kick_answered s t same i most turns answer after done agree
+  command_follows s t same command turns answer after done few agree =
+      over_host s t (λ (u : State F). AgreeOn s.memory.host u.memory.host (command_touches may s command turns answer after done).read →
+      CommandFollows s u command turns answer after done) same
+      (λ h is alike agree. plain_follows may s h alike command turns answer after refl few agree done) agree
 
   -- ---- runs
 
-  pub run_follows : (s t after : State F) (events : List (Command × Answer)) (all_reported : List Turns)
-      (ran : RunReported may s events all_reported after) →
+  pub run_follows : (s t after : State F) (events : List (Command × Answer)) (all_turns : List Turns)
+      (ran : RunReported may s events all_turns after) →
       IsTrue (copies_nothing events) → SameButBytes s t →
-      AgreeOn s.memory.host t.memory.host (run_touches may s events all_reported after ran).read
-      → AllowsToo may s t after events all_reported ran
+      AgreeOn s.memory.host t.memory.host (run_touches may s events all_turns after ran).read
+      → AllowsToo may s t after events all_turns ran
   unfolding RunReported run_touches
   run_follows s t after [] [] ran few same agree = record {
     end = t;
@@ -418,19 +418,19 @@ module _ {F : Type 0} (may : May F) where
     bytes = subst (λ (k : State F). KeepDifference s.memory.host t.memory.host k.memory.host t.memory.host []) (sym ran)
         (nothing_differs s.memory.host t.memory.host);
   }
-  run_follows s t after (e ∷ es) (reported ∷ all_reported) (mid, performs, rest) few same agree =
-      let own = command_touches may s e.0 reported e.1 mid performs in
-      let later = run_touches may mid es all_reported after rest in
+  run_follows s t after (e ∷ es) (turns ∷ all_turns) (mid, performs, rest) few same agree =
+      let own = command_touches may s e.0 turns e.1 mid performs in
+      let later = run_touches may mid es all_turns after rest in
       let parts = and_parts (not (copies e.0)) (copies_nothing es) few in
-      let first = command_follows s t same e.0 reported e.1 mid performs parts.0
+      let first = command_follows s t same e.0 turns e.1 mid performs parts.0
       (agree_front s.memory.host t.memory.host own.read later.read agree) in
-      let others = run_follows mid first.end after es all_reported rest parts.1 first.rest
+      let others = run_follows mid first.end after es all_turns rest parts.1 first.rest
       (agree_later own.written later.read first.bytes (agree_back s.memory.host t.memory.host own.read later.read agree)) in
       record {
         end = others.end;
         run = (first.end, first.can.0, others.run);
-        touched = both_same (command_touches may t e.0 reported e.1 first.end first.can.0) own
-            (run_touches may first.end es all_reported others.end others.run) later first.can.1 others.touched;
+        touched = both_same (command_touches may t e.0 turns e.1 first.end first.can.0) own
+            (run_touches may first.end es all_turns others.end others.run) later first.can.1 others.touched;
         rest = others.rest;
         bytes = keep_both own.written later.written first.bytes others.bytes;
       }

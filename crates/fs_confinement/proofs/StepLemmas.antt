@@ -74,7 +74,7 @@ module _ {F : Type 0} (s : State F) (h : Host) (same : without_bytes s.memory.ho
       let flags : AgreeOn after.memory.host end.memory.host (places_for after.memory Read (addresses q.avail 2)) =
       subst (λ (k : State F). AgreeOn k.memory.host end.memory.host (places_for k.memory Read (addresses q.avail 2))) (sym r.state)
       (agree_stored ws s.memory (with_host s h).memory same_bare (addresses q.avail 2) agree) in
-      let preserved : KeepDifference s.memory.host h after.memory.host end.memory.host (places_for s.memory Write (map (λ w. w.0) ws)) =
+      let kept : KeepDifference s.memory.host h after.memory.host end.memory.host (places_for s.memory Write (map (λ w. w.0) ws)) =
       subst (λ (k : State F). KeepDifference s.memory.host h k.memory.host end.memory.host (places_for s.memory Write (map (λ w. w.0) ws)))
       (sym r.state)
       (stores_keep ws s.memory (with_host s h).memory same_bare) in
@@ -88,7 +88,7 @@ module _ {F : Type 0} (s : State F) (h : Host) (same : without_bytes s.memory.ho
             ∙ ap (λ (m : Memory). record (after_return s i q expected.head room expected.reply options after.files) { memory = m })
             (stores_aside ws s.memory (with_host s h).memory same_bare);
         bytes = subst (λ (y : Exchange). KeepDifference s.memory.host h after.memory.host end.memory.host
-            (places_for s.memory Write (returned_addresses q y.head room y.reply))) (sym r.exchange) preserved;
+            (places_for s.memory Write (returned_addresses q y.head room y.reply))) (sym r.exchange) kept;
       }
 
 module _ {F : Type 0} (may : May F) (s : State F) (h : Host) (same : without_bytes s.memory.host ≡ without_bytes h) where
@@ -204,27 +204,27 @@ module _ {F : Type 0} (may : May F) where
   end_follows s t same i (suc most) (Some e) after step agree = step_follows s t same i [] (Refused e) after step agree
 
   kick_follows : (s t : State F) → SameButBytes s t →
-      (i most : ℕ) (reported : Turns) (refused : Option DeviceError) (after : State F) (ran : KickRun may s i most reported refused after) →
-      AgreeOn s.memory.host t.memory.host (kick_touches may s i most reported refused after ran).read →
-      Follows (λ end. (other : KickRun may t i most reported refused end)
-      × (kick_touches may t i most reported refused end other ≡ kick_touches may s i most reported refused after ran)) s t.memory.host after
-      (kick_touches may s i most reported refused after ran).written
+      (i most : ℕ) (turns : Turns) (refused : Option DeviceError) (after : State F) (ran : KickRun may s i most turns refused after) →
+      AgreeOn s.memory.host t.memory.host (kick_touches may s i most turns refused after ran).read →
+      Follows (λ end. (other : KickRun may t i most turns refused end)
+      × (kick_touches may t i most turns refused end other ≡ kick_touches may s i most turns refused after ran)) s t.memory.host after
+      (kick_touches may s i most turns refused after ran).written
   unfolding KickRun kick_touches
   kick_follows s t same i most [] refused after is agree = end_follows s t same i most refused after is agree
-  kick_follows s t same i zero (x ∷ reported) refused after is agree = absurd is
-  kick_follows s t same i (suc most) (x ∷ reported) refused after (mid, step, rest) agree =
+  kick_follows s t same i zero (x ∷ turns) refused after is agree = absurd is
+  kick_follows s t same i (suc most) (x ∷ turns) refused after (mid, step, rest) agree =
       let own = step_touches s (slice_get s.queues i) (Exchanged x.exchange x.notice) in
-      let later = kick_touches may mid i most reported refused after rest in
+      let later = kick_touches may mid i most turns refused after rest in
       let first = step_follows s t same i x.calls (Exchanged x.exchange x.notice) mid step
       (agree_front s.memory.host t.memory.host own.read later.read agree) in
-      let others = kick_follows mid first.end first.rest i most reported refused after rest
+      let others = kick_follows mid first.end first.rest i most turns refused after rest
       (agree_later own.written later.read first.bytes (agree_back s.memory.host t.memory.host own.read later.read agree)) in
       record {
         end = others.end;
         can = (
           (first.end, first.can.0, others.can.0),
           both_same (step_touches t (slice_get t.queues i) (Exchanged x.exchange x.notice)) own
-              (kick_touches may first.end i most reported refused others.end others.can.0) later
+              (kick_touches may first.end i most turns refused others.end others.can.0) later
               first.can.1 others.can.1,
         );
         rest = others.rest;
@@ -232,18 +232,18 @@ module _ {F : Type 0} (may : May F) where
       }
 
   pub kicks_follow : (s t : State F) → SameButBytes s t →
-      (i most : ℕ) (o : Option Queue) (reported : Turns) (k : KickAnswer) (after : State F) (ran : Kicks may s i most o reported k after) →
-      AgreeOn s.memory.host t.memory.host (kicks_touch may s i most o reported k after ran).read →
-      Follows (λ end. (other : Kicks may t i most o reported k end)
-      × (kicks_touch may t i most o reported k end other ≡ kicks_touch may s i most o reported k after ran)) s t.memory.host after
-      (kicks_touch may s i most o reported k after ran).written
-  kicks_follow s t same i most None reported k after is agree = record {
+      (i most : ℕ) (o : Option Queue) (turns : Turns) (k : KickAnswer) (after : State F) (ran : Kicks may s i most o turns k after) →
+      AgreeOn s.memory.host t.memory.host (kicks_touch may s i most o turns k after ran).read →
+      Follows (λ end. (other : Kicks may t i most o turns k end)
+      × (kicks_touch may t i most o turns k end other ≡ kicks_touch may s i most o turns k after ran)) s t.memory.host after
+      (kicks_touch may s i most o turns k after ran).written
+  kicks_follow s t same i most None turns k after is agree = record {
     end = t;
     can = ((refl, is.1, is.2), refl);
     rest = ap without_its_bytes is.0 ∙ same;
     bytes = subst (λ (k : State F). KeepDifference s.memory.host t.memory.host k.memory.host t.memory.host []) (sym is.0)
         (nothing_differs s.memory.host t.memory.host);
   }
-  kicks_follow s t same i most (Some q) reported k after is agree =
-      let all = kick_follows s t same i most reported k.refused after is.0 agree in
+  kicks_follow s t same i most (Some q) turns k after is agree =
+      let all = kick_follows s t same i most turns k.refused after is.0 agree in
       record { end = all.end; can = ((all.can.0, is.1), all.can.1); rest = all.rest; bytes = all.bytes }

@@ -64,22 +64,22 @@ copies_nothing events = list_all (λ e. not (copies e.0)) events
 -- notifications and calls. It touches the same places, and the states after it differ only in bytes
 -- that differed before and weren't written
 pub record AllowsToo {F : Type 0} (may : May F) (a b after : State F) (events : List (Command
-    × Answer)) (all_reported : List Turns) (ran : RunReported may a events all_reported after) : Type 0 where
+    × Answer)) (all_turns : List Turns) (ran : RunReported may a events all_turns after) : Type 0 where
   pub end : State F
-  pub run : RunReported may b events all_reported end
-  pub touched : run_touches may b events all_reported end run ≡ run_touches may a events all_reported after
+  pub run : RunReported may b events all_turns end
+  pub touched : run_touches may b events all_turns end run ≡ run_touches may a events all_turns after
       ran
   pub rest : SameButBytes after end
   pub bytes : KeepDifference a.memory.host b.memory.host after.memory.host end.memory.host
-      (written_set may a events all_reported after ran)
+      (written_set may a events all_turns after ran)
 
 -- theorem: a run without an image and a harvest is allowed from each state that differs only in bytes
 -- outside its read set
 abbrev pub Confinement : {F : Type 0} → May F → Type 0
 Confinement {F} may =
     (a b after : State F) (events : List (Command
-    × Answer)) (all_reported : List Turns) (ran : RunReported may a events all_reported after) →
+    × Answer)) (all_turns : List Turns) (ran : RunReported may a events all_turns after) →
     IsTrue (copies_nothing events) →
     SameButBytes a b →
-    AgreeOn a.memory.host b.memory.host (read_set may a events all_reported after ran) →
-    AllowsToo may a b after events all_reported ran
+    AgreeOn a.memory.host b.memory.host (read_set may a events all_turns after ran) →
+    AllowsToo may a b after events all_turns ran

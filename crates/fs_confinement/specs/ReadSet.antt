@@ -152,8 +152,8 @@ end_touches s i (suc most) (Some e) = step_touches s (slice_get s.queues i) (Ref
 
 -- the places that a kick touches, step by step
 unfoldable pub kick_touches : {F : Type 0} → (may : May F) → (s : State F) → (queue most : ℕ) →
-    (reported : Turns) → (refused : Option DeviceError) → (after : State F) →
-    KickRun may s queue most reported refused after → Touched
+    (turns : Turns) → (refused : Option DeviceError) → (after : State F) →
+    KickRun may s queue most turns refused after → Touched
 unfolding KickRun
 kick_touches may s i most [] refused after ends = end_touches s i most refused
 kick_touches may s i zero (t ∷ ts) refused after none = nothing
@@ -163,11 +163,11 @@ kick_touches may s i (suc most) (t ∷ ts) refused after (mid, first, rest) =
 
 -- the places that a kick of a queue touches; none if the queue is missing
 abbrev pub kicks_touch : {F : Type 0} → (may : May F) → (s : State F) → (queue most : ℕ) →
-    (o : Option Queue) → (reported : Turns) → (k : KickAnswer) → (after : State F) →
-    Kicks may s queue most o reported k after → Touched
-kicks_touch may s i most None reported k after kicked = nothing
-kicks_touch may s i most (Some q) reported k after kicked =
-    kick_touches may s i most reported k.refused after kicked.0
+    (o : Option Queue) → (turns : Turns) → (k : KickAnswer) → (after : State F) →
+    Kicks may s queue most o turns k after → Touched
+kicks_touch may s i most None turns k after kicked = nothing
+kicks_touch may s i most (Some q) turns k after kicked =
+    kick_touches may s i most turns k.refused after kicked.0
 
 -- the places that a guest's read with this answer touches: its physical addresses; none if it is
 -- refused
@@ -191,33 +191,33 @@ plain_touches s _ answer = nothing
 
 -- the places that a command touches
 abbrev pub command_touches : {F : Type 0} → (may : May F) → (s : State F) → (command : Command) →
-    (reported : Turns) → (answer : Answer) → (after : State F) →
-    Performs may s command reported answer after → Touched
-command_touches may s (run.Kick i most) reported (run.Served k) after done =
-    kicks_touch may s i most (slice_get s.queues i) reported k after done
-command_touches may s (run.Kick i most) reported _ after done = nothing
-command_touches may s command reported answer after done = plain_touches s command answer
+    (turns : Turns) → (answer : Answer) → (after : State F) →
+    Performs may s command turns answer after → Touched
+command_touches may s (run.Kick i most) turns (run.Served k) after done =
+    kicks_touch may s i most (slice_get s.queues i) turns k after done
+command_touches may s (run.Kick i most) turns _ after done = nothing
+command_touches may s command turns answer after done = plain_touches s command answer
 
 -- the places that a run touches, command by command
 unfoldable pub run_touches : {F : Type 0} → (may : May F) → (s : State F) →
-    (events : List (Command × Answer)) → (all_reported : List Turns) → (after : State F) →
-    RunReported may s events all_reported after → Touched
+    (events : List (Command × Answer)) → (all_turns : List Turns) → (after : State F) →
+    RunReported may s events all_turns after → Touched
 unfolding RunReported
 run_touches may s [] [] after ran = nothing
-run_touches may s [] (reported ∷ all_reported) after none = nothing
+run_touches may s [] (turns ∷ all_turns) after none = nothing
 run_touches may s (e ∷ es) [] after none = nothing
-run_touches may s (e ∷ es) (reported ∷ all_reported) after (mid, first, rest) =
-    and_then (command_touches may s e.0 reported e.1 mid first)
-    (run_touches may mid es all_reported after rest)
+run_touches may s (e ∷ es) (turns ∷ all_turns) after (mid, first, rest) =
+    and_then (command_touches may s e.0 turns e.1 mid first)
+    (run_touches may mid es all_turns after rest)
 
 -- the read set of a run: the places that it reads
 abbrev pub read_set : {F : Type 0} → (may : May F) → (s : State F) → (events : List (Command × Answer)) →
-    (all_reported : List Turns) → (after : State F) →
-    RunReported may s events all_reported after → List Place
-read_set may s events all_reported after ran = (run_touches may s events all_reported after ran).read
+    (all_turns : List Turns) → (after : State F) →
+    RunReported may s events all_turns after → List Place
+read_set may s events all_turns after ran = (run_touches may s events all_turns after ran).read
 
 -- the places that a run writes
 abbrev pub written_set : {F : Type 0} → (may : May F) → (s : State F) → (events : List (Command × Answer)) →
-    (all_reported : List Turns) → (after : State F) →
-    RunReported may s events all_reported after → List Place
-written_set may s events all_reported after ran = (run_touches may s events all_reported after ran).written
+    (all_turns : List Turns) → (after : State F) →
+    RunReported may s events all_turns after → List Place
+written_set may s events all_turns after ran = (run_touches may s events all_turns after ran).written

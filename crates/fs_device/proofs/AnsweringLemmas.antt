@@ -10,7 +10,7 @@ use Rattle.fs_queue.specs.Windows.{HoldsChain}
 use Rattle.server_meanings.specs.Serving.{May}
 use Rattle.fs_device.specs.declared.returned.Returned.{Returned}
 use Rattle.fs_device.specs.DeviceView.{request_of}
-use Rattle.fs_device.specs.Returned.{StepReported, reported_exchange}
+use Rattle.fs_device.specs.Returned.{StepReturned, returned_exchange}
 use Rattle.plain_machine.specs.Step.{State, Exchange, Exchanged, Calls, Step}
 
 -- a chain's windows hold the request's bytes
@@ -33,11 +33,11 @@ pub front_is_all : (h : Host) (ps : List Place) (front : List ℕ) → front ≡
 front_is_all h ps front is all = is ∙ ap (map (byte_in h)) (take_all (length front) ps (omega (arith, all)))
 
 -- a step that exchanged, told by its head, its lengths, its fault and its notice
-pub reported_step : {F : Type 0} (may : May F) (before : State F) (i : ℕ) (x : Exchange) (notice : Bool) (after : State F) (r : Returned) →
+pub returned_step : {F : Type 0} (may : May F) (before : State F) (i : ℕ) (x : Exchange) (notice : Bool) (after : State F) (r : Returned) →
     (calls : Calls) × Step may before i calls (Exchanged x notice) after → r.head ≡ x.head → r.request_len ≡ length x.request →
     r.reply_len ≡ length x.reply →
-    r.fault ≡ x.fault → r.notify ≡ notice → StepReported may before i (Ok (Some r)) after
-reported_step may before i x notice after r step head request reply fault reported =
-    let same : r ≡ reported_exchange x notice =
-    λ j. record { head = head j; request_len = request j; reply_len = reply j; fault = fault j; notify = reported j } in
+    r.fault ≡ x.fault → r.notify ≡ notice → StepReturned may before i (Ok (Some r)) after
+returned_step may before i x notice after r step head request reply fault exchanged =
+    let same : r ≡ returned_exchange x notice =
+    λ j. record { head = head j; request_len = request j; reply_len = reply j; fault = fault j; notify = exchanged j } in
     (step.0, Exchanged x notice, step.1, ap (λ y. Ok (Some y)) same)

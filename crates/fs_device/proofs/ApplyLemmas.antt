@@ -123,7 +123,7 @@ pub put_more : (first now new whole : Host) (pages : List HarvestedPage) (i : �
     OnTrue done (new ≡ set_all now (zip (span p.block p.offset None (length bytes)) bytes)) → shape new ≡ shape now →
     Left first now whole pages i → Left first new whole pages (i + 1)
 unfolding pages_put first_refused
-put_more first now new whole pages i p bytes done lt is same found stored shape_preserved left =
+put_more first now new whole pages i p bytes done lt is same found stored shape_kept left =
     let v = page_view p in
     let rest = drop (i + 1) (map page_view pages) in
     let next = next_page pages i p lt is in
@@ -133,11 +133,11 @@ put_more first now new whole pages i p bytes done lt is same found stored shape_
     let was : IsTrue done = found.1 (rw same has) in
     let put : new ≡ page_put now v =
     OnTrue_at was stored ∙ ap (λ (l : List ℕ). set_all now (zip (span p.block p.offset None (length l)) l)) same ∙ set_puts now v has in
-    let preserved : lengths new ≡ lengths now = ap (λ (s : Shape). s.block_lengths) shape_preserved in (
+    let kept : lengths new ≡ lengths now = ap (λ (s : Shape). s.block_lengths) shape_kept in (
       ap (λ (h : Host). pages_put h rest) put ∙ sym (ap (pages_put now) next) ∙ left.0,
-      ap (λ (ls : List ℕ). first_refused ls (i + 1) rest) preserved
+      ap (λ (ls : List ℕ). first_refused ls (i + 1) rest) kept
           ∙ later_none (refused_by (slice_get (lengths now) p.block) i v) later refusals,
-      shape_preserved ∙ left.2,
+      shape_kept ∙ left.2,
     )
 
 -- nothing is left

@@ -297,58 +297,58 @@ step_balances may n some s i (Some q) calls x notice after t = exchange_balances
 -- ---- kicks
 
 -- over exchanges
-abbrev ReportedBalances : (n : ℕ) → Turns → Type 0
-ReportedBalances n reported =
-    sum_by (answered n) reported + sum_by (accepted n) reported ≡ sum_by (written n) reported + sum_by (sent n) reported
+abbrev TurnsBalance : (n : ℕ) → Turns → Type 0
+TurnsBalance n turns =
+    sum_by (answered n) turns + sum_by (accepted n) turns ≡ sum_by (written n) turns + sum_by (sent n) turns
 
 kick_balances : {F : Type 0} (may : May F) (n : ℕ) → n ≢ 0 →
-    (s : State F) (i most : ℕ) (reported : Turns) (refused : Option DeviceError) (after : State F) →
-    KickRun may s i most reported refused after → ReportedBalances n reported
+    (s : State F) (i most : ℕ) (turns : Turns) (refused : Option DeviceError) (after : State F) →
+    KickRun may s i most turns refused after → TurnsBalance n turns
 unfolding KickRun
 kick_balances may n some s i most [] refused after t = refl
-kick_balances may n some s i zero (x ∷ reported) refused after t = absurd t
-kick_balances may n some s i (suc most) (x ∷ reported) refused after (mid, step, rest) =
+kick_balances may n some s i zero (x ∷ turns) refused after t = absurd t
+kick_balances may n some s i (suc most) (x ∷ turns) refused after (mid, step, rest) =
     let own = step_balances may n some s i (slice_get s.queues i) x.calls x.exchange x.notice mid step in
-    let others = kick_balances may n some mid i most reported refused after rest in
-    let a = sum_by-cons (answered n) x reported in
-    let b = sum_by-cons (accepted n) x reported in
-    omega (arith, own, others, a, b, sum_by-cons (written n) x reported, sum_by-cons (sent n) x reported)
+    let others = kick_balances may n some mid i most turns refused after rest in
+    let a = sum_by-cons (answered n) x turns in
+    let b = sum_by-cons (accepted n) x turns in
+    omega (arith, own, others, a, b, sum_by-cons (written n) x turns, sum_by-cons (sent n) x turns)
 
 kicks_balance : {F : Type 0} (may : May F) (n : ℕ) → n ≢ 0 →
-    (s : State F) (i most : ℕ) (o : Option Queue) (reported : Turns) (k : KickAnswer) (after : State F) →
-    Kicks may s i most o reported k after → ReportedBalances n reported
-kicks_balance may n some s i most None reported k after t = subst (ReportedBalances n) (sym t.1) refl
-kicks_balance may n some s i most (Some q) reported k after t = kick_balances may n some s i most reported k.refused after t.0
+    (s : State F) (i most : ℕ) (o : Option Queue) (turns : Turns) (k : KickAnswer) (after : State F) →
+    Kicks may s i most o turns k after → TurnsBalance n turns
+kicks_balance may n some s i most None turns k after t = subst (TurnsBalance n) (sym t.1) refl
+kicks_balance may n some s i most (Some q) turns k after t = kick_balances may n some s i most turns k.refused after t.0
 
 -- ---- runs
 
 does_balance :
-    {F : Type 0} (may : May F) (n : ℕ) → n ≢ 0 → (s : State F) (command : Command) (reported : Turns) (answer : Answer) (after : State F) →
-    Does may s command reported answer after → ReportedBalances n reported
+    {F : Type 0} (may : May F) (n : ℕ) → n ≢ 0 → (s : State F) (command : Command) (turns : Turns) (answer : Answer) (after : State F) →
+    Does may s command turns answer after → TurnsBalance n turns
 does_balance may n some s command [] answer after t = refl
-does_balance may n some s (run.Kick i most) (x ∷ reported) (run.Served k) after t =
-    kicks_balance may n some s i most (slice_get s.queues i) (x ∷ reported) k after t
-does_balance may n some s _ (x ∷ reported) _ after t = absurd t
+does_balance may n some s (run.Kick i most) (x ∷ turns) (run.Served k) after t =
+    kicks_balance may n some s i most (slice_get s.queues i) (x ∷ turns) k after t
+does_balance may n some s _ (x ∷ turns) _ after t = absurd t
 
 performs_balance :
-    {F : Type 0} (may : May F) (n : ℕ) → n ≢ 0 → (s : State F) (command : Command) (reported : Turns) (answer : Answer) (after : State F) →
-    Performs may s command reported answer after → ReportedBalances n reported
+    {F : Type 0} (may : May F) (n : ℕ) → n ≢ 0 → (s : State F) (command : Command) (turns : Turns) (answer : Answer) (after : State F) →
+    Performs may s command turns answer after → TurnsBalance n turns
 performs_balance may n some s command [] (run.IsRefused why.OutOfMemory) after t = refl
-performs_balance may n some s command (x ∷ reported) (run.IsRefused why.OutOfMemory) after t = absurd t
-performs_balance may n some s command reported _ after t = does_balance may n some s command reported _ after t
+performs_balance may n some s command (x ∷ turns) (run.IsRefused why.OutOfMemory) after t = absurd t
+performs_balance may n some s command turns _ after t = does_balance may n some s command turns _ after t
 
 -- a run balances
 pub run_balances :
-    {F : Type 0} (may : May F) (n : ℕ) → n ≢ 0 → (s : State F) (events : List (Command × Answer)) (all_reported : List Turns)
+    {F : Type 0} (may : May F) (n : ℕ) → n ≢ 0 → (s : State F) (events : List (Command × Answer)) (all_turns : List Turns)
     (after : State F) →
-    RunReported may s events all_reported after → IsBalanced n all_reported
+    RunReported may s events all_turns after → IsBalanced n all_turns
 unfolding RunReported
 run_balances may n some s [] [] after t = refl
-run_balances may n some s (e ∷ es) (reported ∷ all_reported) after (mid, performs, rest) =
-    let own = performs_balance may n some s e.0 reported e.1 mid performs in
-    let a = sum_by-cons (λ (l : Turns). sum_by (answered n) l) reported all_reported in
-    let b = sum_by-cons (λ (l : Turns). sum_by (accepted n) l) reported all_reported in
-    let c = sum_by-cons (λ (l : Turns). sum_by (written n) l) reported all_reported in
-    let d = sum_by-cons (λ (l : Turns). sum_by (sent n) l) reported all_reported in
-    omega (arith, own, run_balances may n some mid es all_reported after rest, a, b, c, d)
+run_balances may n some s (e ∷ es) (turns ∷ all_turns) after (mid, performs, rest) =
+    let own = performs_balance may n some s e.0 turns e.1 mid performs in
+    let a = sum_by-cons (λ (l : Turns). sum_by (answered n) l) turns all_turns in
+    let b = sum_by-cons (λ (l : Turns). sum_by (accepted n) l) turns all_turns in
+    let c = sum_by-cons (λ (l : Turns). sum_by (written n) l) turns all_turns in
+    let d = sum_by-cons (λ (l : Turns). sum_by (sent n) l) turns all_turns in
+    omega (arith, own, run_balances may n some mid es all_turns after rest, a, b, c, d)
 run_balances may n some s _ _ after t = absurd t

@@ -71,14 +71,14 @@ pub carries_on : {F : Type 0} (may : May F) (s mid next : State F) (i most left 
     (calls : Calls) → Proceeds may s i most done mid left →
     left ≡ suc more → Step may mid i calls (Exchanged x.0 x.1) next → Proceeds may s i most (done ++ x ∷ []) next more
 unfolding KickRun
-carries_on may s mid next i most zero more done x calls proceeds some step rest refused after (reported, run, is) = absurd (omega arith)
-carries_on may s mid next i most (suc left) more done x calls proceeds some step rest refused after (reported, run, is) =
+carries_on may s mid next i most zero more done x calls proceeds some step rest refused after (turns, run, is) = absurd (omega arith)
+carries_on may s mid next i most (suc left) more done x calls proceeds some step rest refused after (turns, run, is) =
     let same : more ≡ left = omega arith in
     let turn : Turn = record { exchange = x.0; notice = x.1; calls = calls } in
     subst (λ (xs : List (Exchange × Bool)). KickLists may s i most xs refused after) (sym (append_assoc done (x ∷ []) rest))
     (proceeds (x ∷ rest) refused after (
-      turn ∷ reported,
-      (next, step, subst (λ (n : ℕ). KickRun may next i n reported refused after) same run),
+      turn ∷ turns,
+      (next, step, subst (λ (n : ℕ). KickRun may next i n turns refused after) same run),
       ap (λ (xs : List (Exchange × Bool)). x ∷ xs) is,
     ))
 

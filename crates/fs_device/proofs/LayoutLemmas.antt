@@ -35,16 +35,16 @@ held_grown xs ys (r ∷ l) held =
     (omega (arith, held.0, count), index_before xs ys r.block held.0 ∙ held.1, held_grown xs ys l held.2)
 
 -- the blocks hold the layout as before, whether or not there is one more
-pub preserved : (count : ℕ → ℕ) (n : ℕ) (old new : Host) (l : List Region) (made : Result ℕ AllocError) →
+pub kept : (count : ℕ → ℕ) (n : ℕ) (old new : Host) (l : List Region) (made : Result ℕ AllocError) →
     IfOk made (λ number. new ≡ with_block old (record { bytes = replicate n 0; marks = replicate (count n) false })) →
     OnErr made (new ≡ old) →
     AreHeld (lengths old) l → AreHeld (lengths new) l
-preserved count n old new l (Ok number) ok err held =
+kept count n old new l (Ok number) ok err held =
     let block : Block = record { bytes = replicate n 0; marks = replicate (count n) false } in
     let more : lengths new ≡ lengths old ++ length block.bytes ∷ [] =
     ap lengths ok ∙ map-append (λ (b : Block). length b.bytes) old.blocks (block ∷ []) in
     subst (λ (xs : List ℕ). AreHeld xs l) (sym more) (held_grown (lengths old) (length block.bytes ∷ []) l held)
-preserved count n old new l (Err e) ok err held = subst (λ (h : Host). AreHeld (lengths h) l) (sym err) held
+kept count n old new l (Err e) ok err held = subst (λ (h : Host). AreHeld (lengths h) l) (sym err) held
 
 pub page_count-is : (n : ℕ) → pages_of 4096 n ≡ page_count n
 page_count-is n = omega arith

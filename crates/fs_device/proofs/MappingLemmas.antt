@@ -16,7 +16,7 @@ use Rattle.vm_memory.specs.Translated.{HoldsBehind, ranges_in}
 use Rattle.plain_machine.specs.declared.refusal.Refusal.TheVariants as why
 use Rattle.plain_machine.specs.Step.{State}
 use Rattle.plain_machine.specs.Run.{IsRefused, ChangesTable, ends_fit}
-use Rattle.fs_device.proofs.LayoutLemmas.{preserved}
+use Rattle.fs_device.proofs.LayoutLemmas.{kept}
 
 -- ---- ends
 
@@ -61,13 +61,13 @@ wanted_to_map t u a b n fits target some anew =
 -- ---- what a host holds
 
 -- whether or not there is one more block
-pub preserved_behind : (count : ℕ → ℕ) (n : ℕ) (old new : Host) (l : List Region) (number set : ℕ) (made : Result ℕ AllocError) →
+pub kept_behind : (count : ℕ → ℕ) (n : ℕ) (old new : Host) (l : List Region) (number set : ℕ) (made : Result ℕ AllocError) →
     IfOk made (λ number. new ≡ with_block old (record { bytes = replicate n 0; marks = replicate (count n) false })) →
     OnErr made (new ≡ old) →
     HoldsBehind old l number set → HoldsBehind new l number set
-preserved_behind count n old new l number set (Ok block) ok err held = (
-  preserved count n old new l (Ok block) ok err held.0,
+kept_behind count n old new l number set (Ok block) ok err held = (
+  kept count n old new l (Ok block) ok err held.0,
   subst (λ (h : Host). number < length h.tables) (sym ok) held.1,
   subst (λ (h : Host). set < length h.io_marks) (sym ok) held.2,
 )
-preserved_behind count n old new l number set (Err e) ok err held = subst (λ (h : Host). HoldsBehind h l number set) (sym err) held
+kept_behind count n old new l number set (Err e) ok err held = subst (λ (h : Host). HoldsBehind h l number set) (sym err) held

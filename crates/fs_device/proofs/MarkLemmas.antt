@@ -67,15 +67,15 @@ put_aside h p x =
     ∙ ap (λ (blocks : List Block). record (without_marks h) { blocks = blocks })
     (changed_after unmarked _ (λ b. record b { bytes = slice_set b.bytes p.offset x }) h.blocks p.block (λ b. refl))
 
-block_byte_preserved : (o : Option Block) (offset : ℕ) → option_and_then (λ (b : Block). slice_get b.bytes offset) (option_map unmarked o)
+block_byte_kept : (o : Option Block) (offset : ℕ) → option_and_then (λ (b : Block). slice_get b.bytes offset) (option_map unmarked o)
     ≡ option_and_then (λ (b : Block). slice_get b.bytes offset) o
-block_byte_preserved None offset = refl
-block_byte_preserved (Some b) offset = refl
+block_byte_kept None offset = refl
+block_byte_kept (Some b) offset = refl
 
-byte_preserved : (h : Host) (p : Place) → byte_at (without_marks h) p ≡ byte_at h p
-byte_preserved h p =
+byte_kept : (h : Host) (p : Place) → byte_at (without_marks h) p ≡ byte_at h p
+byte_kept h p =
     ap (λ (o : Option Block). option_and_then (λ b. slice_get b.bytes p.offset) o) (slice_get-map unmarked h.blocks p.block)
-    ∙ block_byte_preserved (slice_get h.blocks p.block) p.offset
+    ∙ block_byte_kept (slice_get h.blocks p.block) p.offset
 
 -- ---- memories
 
@@ -83,9 +83,9 @@ byte_preserved h p =
 abbrev pub unmarked_memory : Memory → Memory
 unmarked_memory m = record m { host = without_marks m.host }
 
-bytes_preserved : (m : Memory) → byte (unmarked_memory m) ≡ byte m
-bytes_preserved m =
-    ap {B = ℕ → ℕ} (λ (f : Place → Option ℕ) (a : ℕ). unwrap_or (option_and_then f (location m Read a)) 0) (fun_ext (byte_preserved m.host))
+bytes_kept : (m : Memory) → byte (unmarked_memory m) ≡ byte m
+bytes_kept m =
+    ap {B = ℕ → ℕ} (λ (f : Place → Option ℕ) (a : ℕ). unwrap_or (option_and_then f (location m Read a)) 0) (fun_ext (byte_kept m.host))
 
 stored_aside : (m n : Memory) → unmarked_memory m ≡ unmarked_memory n → (x : ℕ) (o : Option Place) →
     unmarked_memory (stored_at m x o) ≡ unmarked_memory (stored_at n x o)
@@ -114,8 +114,8 @@ abbrev descriptor_by : (ℕ → ℕ) → ℕ → Descriptor
 descriptor_by f a =
     record { addr = number_by f w64 a; len = number_by f w32 (a + 8); flags = number_by f w16 (a + 12); next = number_by f w16 (a + 14) }
 
-descriptor_preserved : (m : Memory) (a : ℕ) → descriptor_at (unmarked_memory m) a ≡ descriptor_at m a
-descriptor_preserved m a = ap (λ (f : ℕ → ℕ). descriptor_by f a) (bytes_preserved m)
+descriptor_kept : (m : Memory) (a : ℕ) → descriptor_at (unmarked_memory m) a ≡ descriptor_at m a
+descriptor_kept m a = ap (λ (f : ℕ → ℕ). descriptor_by f a) (bytes_kept m)
 
 abbrev walk_step_by : (size : ℕ) (reached : Bool) → Visit → Descriptor → WalkStep
 walk_step_by size reached v d =
@@ -124,27 +124,27 @@ walk_step_by size reached v d =
     else if is_indirect d then indirect_step v d
     else ordinary_step size v d
 
-walk_step_preserved : (m : Memory) (size : ℕ) (v : Visit) → walk_step (unmarked_memory m) size v ≡ walk_step m size v
-walk_step_preserved m size v =
-    ap (walk_step_by size (reach m Read (v.table.address + 16 * v.index) 16) v) (descriptor_preserved m (v.table.address + 16 * v.index))
+walk_step_kept : (m : Memory) (size : ℕ) (v : Visit) → walk_step (unmarked_memory m) size v ≡ walk_step m size v
+walk_step_kept m size v =
+    ap (walk_step_by size (reach m Read (v.table.address + 16 * v.index) 16) v) (descriptor_kept m (v.table.address + 16 * v.index))
 
-path_preserved : (m : Memory) (size n : ℕ) (v : Visit) → path (unmarked_memory m) size n v ≡ path m size n v
+path_kept : (m : Memory) (size n : ℕ) (v : Visit) → path (unmarked_memory m) size n v ≡ path m size n v
 unfolding path
-path_preserved m size zero v = refl
-path_preserved m size (suc n) v =
-    ap (λ (w : WalkStep). v ∷ onward (path (unmarked_memory m) size n) (next_visit v w)) (walk_step_preserved m size v)
-    ∙ ap (λ (f : Visit → List Visit). v ∷ onward f (next_visit v (walk_step m size v))) (fun_ext (path_preserved m size n))
+path_kept m size zero v = refl
+path_kept m size (suc n) v =
+    ap (λ (w : WalkStep). v ∷ onward (path (unmarked_memory m) size n) (next_visit v w)) (walk_step_kept m size v)
+    ∙ ap (λ (f : Visit → List Visit). v ∷ onward f (next_visit v (walk_step m size v))) (fun_ext (path_kept m size n))
 
-found_preserved : (m : Memory) (size : ℕ) (vs : List Visit) → found (unmarked_memory m) size vs ≡ found m size vs
+found_kept : (m : Memory) (size : ℕ) (vs : List Visit) → found (unmarked_memory m) size vs ≡ found m size vs
 unfolding found
-found_preserved m size [] = refl
-found_preserved m size (v ∷ vs) =
-    ap (λ (w : WalkStep). after_walk_step w (found (unmarked_memory m) size vs)) (walk_step_preserved m size v)
-    ∙ ap (after_walk_step (walk_step m size v)) (found_preserved m size vs)
+found_kept m size [] = refl
+found_kept m size (v ∷ vs) =
+    ap (λ (w : WalkStep). after_walk_step w (found (unmarked_memory m) size vs)) (walk_step_kept m size v)
+    ∙ ap (after_walk_step (walk_step m size v)) (found_kept m size vs)
 
-chain_preserved : (m : Memory) (q : Queue) (head : ℕ) → chain (unmarked_memory m) q head ≡ chain m q head
-chain_preserved m q head =
-    ap (found (unmarked_memory m) q.size) (path_preserved m q.size (q.size + 2) (first_visit q head)) ∙ found_preserved m q.size
+chain_kept : (m : Memory) (q : Queue) (head : ℕ) → chain (unmarked_memory m) q head ≡ chain m q head
+chain_kept m q head =
+    ap (found (unmarked_memory m) q.size) (path_kept m q.size (q.size + 2) (first_visit q head)) ∙ found_kept m q.size
     (walk m q head)
 
 -- ---- offers
@@ -156,12 +156,12 @@ asked_with m limit ds f =
     else if not (all_reach m Write (writable ds)) then CannotFetch RoomUnreachable
     else IsRequest (flat_map (λ d. map f (addresses d.addr d.len)) (readable ds)) (flat_map (λ d. addresses d.addr d.len) (writable ds))
 
-asked_preserved : (m : Memory) (limit : ℕ) (ds : List Descriptor)
+asked_kept : (m : Memory) (limit : ℕ) (ds : List Descriptor)
     → request_and_room (unmarked_memory m) limit ds ≡ request_and_room m limit ds
-asked_preserved m limit ds = ap (asked_with m limit ds) (bytes_preserved m)
+asked_kept m limit ds = ap (asked_with m limit ds) (bytes_kept m)
 
 found_offered : (m : Memory) (limit head : ℕ) (o : Found) → offer_of (unmarked_memory m) limit head o ≡ offer_of m limit head o
-found_offered m limit head (IsChain ds) = ap (Offers head) (asked_preserved m limit ds)
+found_offered m limit head (IsChain ds) = ap (Offers head) (asked_kept m limit ds)
 found_offered m limit head _ = refl
 
 abbrev after_return_places : Memory → Queue → Offer → Offer
@@ -170,14 +170,14 @@ after_return_places m q o =
     else if not (reach m Read q.avail 2) then Refuses stop.AvailFlagsUnreachable
     else o
 
-head_preserved : (m : Memory) (limit : ℕ) (q : Queue) (head : ℕ) → on_head (unmarked_memory m) limit q head ≡ on_head m limit q head
-head_preserved m limit q head = ap (after_return_places m q) (ap (offer_of (unmarked_memory m) limit head) (chain_preserved m q head)
+head_kept : (m : Memory) (limit : ℕ) (q : Queue) (head : ℕ) → on_head (unmarked_memory m) limit q head ≡ on_head m limit q head
+head_kept m limit q head = ap (after_return_places m q) (ap (offer_of (unmarked_memory m) limit head) (chain_kept m q head)
     ∙ found_offered m limit head (chain m q head))
 
-on_next_avail_preserved :
+on_next_avail_kept :
     (m : Memory) (limit : ℕ) (q : Queue) (l : NextAvail) → on_next_avail (unmarked_memory m) limit q l ≡ on_next_avail m limit q l
-on_next_avail_preserved m limit q (avail.Head head) = head_preserved m limit q head
-on_next_avail_preserved m limit q _ = refl
+on_next_avail_kept m limit q (avail.Head head) = head_kept m limit q head
+on_next_avail_kept m limit q _ = refl
 
 abbrev waiting_by : (ℕ → ℕ) → Queue → ℕ
 waiting_by f q = (number_by f w16 (avail_index_at q) + (2 ^ 16 - q.position)) % 2 ^ 16
@@ -194,30 +194,30 @@ next_avail_by m q f =
     else if nat_le q.size (head_by f q) then avail.Refused stop.HeadOutOfTable
     else avail.Head (head_by f q)
 
-next_avail_preserved : (m : Memory) (q : Queue) → next_avail (unmarked_memory m) q ≡ next_avail m q
-next_avail_preserved m q = ap (next_avail_by m q) (bytes_preserved m)
+next_avail_kept : (m : Memory) (q : Queue) → next_avail (unmarked_memory m) q ≡ next_avail m q
+next_avail_kept m q = ap (next_avail_by m q) (bytes_kept m)
 
-offer_preserved : (m : Memory) (limit : ℕ) (q : Queue) → offer (unmarked_memory m) limit q ≡ offer m limit q
+offer_kept : (m : Memory) (limit : ℕ) (q : Queue) → offer (unmarked_memory m) limit q ≡ offer m limit q
 unfolding offer
-offer_preserved m limit q =
+offer_kept m limit q =
     ap (λ (l : NextAvail). if q.stopped then Refuses stop.Stopped else on_next_avail (unmarked_memory m) limit q l)
-    (next_avail_preserved m q)
-    ∙ ap (λ (o : Offer). if q.stopped then Refuses stop.Stopped else o) (on_next_avail_preserved m limit q (next_avail m q))
+    (next_avail_kept m q)
+    ∙ ap (λ (o : Offer). if q.stopped then Refuses stop.Stopped else o) (on_next_avail_kept m limit q (next_avail m q))
 
-wants_preserved : (m : Memory) (q : Queue) → wants_notice (unmarked_memory m) q ≡ wants_notice m q
-wants_preserved m q = ap (λ (f : ℕ → ℕ). not (has_bit (number_by f w16 q.avail) 0)) (bytes_preserved m)
+wants_kept : (m : Memory) (q : Queue) → wants_notice (unmarked_memory m) q ≡ wants_notice m q
+wants_kept m q = ap (λ (f : ℕ → ℕ). not (has_bit (number_by f w16 q.avail) 0)) (bytes_kept m)
 
 -- ---- memories that differ in marks alone
 
 module _ (m n : Memory) (same : unmarked_memory m ≡ unmarked_memory n) where
   -- have the same bytes
   pub bytes_same : byte m ≡ byte n
-  bytes_same = sym (bytes_preserved m) ∙ ap byte same ∙ bytes_preserved n
+  bytes_same = sym (bytes_kept m) ∙ ap byte same ∙ bytes_kept n
 
   -- offer the same
   pub offers_same : (limit : ℕ) (q : Queue) → offer m limit q ≡ offer n limit q
-  offers_same limit q = sym (offer_preserved m limit q) ∙ ap (λ (k : Memory). offer k limit q) same ∙ offer_preserved n limit q
+  offers_same limit q = sym (offer_kept m limit q) ∙ ap (λ (k : Memory). offer k limit q) same ∙ offer_kept n limit q
 
   -- want the same notices
   pub notices_same : (q : Queue) → wants_notice m q ≡ wants_notice n q
-  notices_same q = sym (wants_preserved m q) ∙ ap (λ (k : Memory). wants_notice k q) same ∙ wants_preserved n q
+  notices_same q = sym (wants_kept m q) ∙ ap (λ (k : Memory). wants_notice k q) same ∙ wants_kept n q

@@ -140,23 +140,23 @@ module _ {F : Type 0} (may : May F) where
   end_alike s t same i (suc most) None after step = step_alike s t same i [] Idle after step
   end_alike s t same i (suc most) (Some e) after step = step_alike s t same i [] (Refused e) after step
 
-  kick_alike : (s t : State F) → SameButMarks s t → (i most : ℕ) (reported : Turns) (refused : Option DeviceError) (after : State F) →
-      KickRun may s i most reported refused after →
-      Matched (λ end. KickRun may t i most reported refused end) after
+  kick_alike : (s t : State F) → SameButMarks s t → (i most : ℕ) (turns : Turns) (refused : Option DeviceError) (after : State F) →
+      KickRun may s i most turns refused after →
+      Matched (λ end. KickRun may t i most turns refused end) after
   unfolding KickRun
   kick_alike s t same i most [] refused after is = end_alike s t same i most refused after is
-  kick_alike s t same i zero (x ∷ reported) refused after is = absurd is
-  kick_alike s t same i (suc most) (x ∷ reported) refused after (mid, step, rest) =
+  kick_alike s t same i zero (x ∷ turns) refused after is = absurd is
+  kick_alike s t same i (suc most) (x ∷ turns) refused after (mid, step, rest) =
       let first = step_alike s t same i x.calls (Exchanged x.exchange x.notice) mid step in
-      let others = kick_alike mid first.0 first.2 i most reported refused after rest in
+      let others = kick_alike mid first.0 first.2 i most turns refused after rest in
       (others.0, (first.0, first.1, others.1), others.2)
 
-  kicks_alike : (s t : State F) → SameButMarks s t → (i most : ℕ) (o : Option Queue) (reported : Turns) (k : KickAnswer) (after : State F) →
-      Kicks may s i most o reported k after →
-      Matched (λ end. Kicks may t i most o reported k end) after
-  kicks_alike s t same i most None reported k after is = (t, (refl, is.1, is.2), ap without_its_marks is.0 ∙ same)
-  kicks_alike s t same i most (Some q) reported k after is =
-      let all = kick_alike s t same i most reported k.refused after is.0 in (all.0, (all.1, is.1), all.2)
+  kicks_alike : (s t : State F) → SameButMarks s t → (i most : ℕ) (o : Option Queue) (turns : Turns) (k : KickAnswer) (after : State F) →
+      Kicks may s i most o turns k after →
+      Matched (λ end. Kicks may t i most o turns k end) after
+  kicks_alike s t same i most None turns k after is = (t, (refl, is.1, is.2), ap without_its_marks is.0 ∙ same)
+  kicks_alike s t same i most (Some q) turns k after is =
+      let all = kick_alike s t same i most turns k.refused after is.0 in (all.0, (all.1, is.1), all.2)
 
 -- ---- what the other commands do
 
@@ -191,12 +191,12 @@ cleared_aside h = ap (λ (blocks : List Block). record (without_marks h) { block
 block_aside : (h : Host) (b : Block) → without_marks (with_block h b) ≡ with_block (without_marks h) (unmarked b)
 block_aside h b = ap (λ (blocks : List Block). record (without_marks h) { blocks = blocks }) (map-append unmarked h.blocks (b ∷ []))
 
-len_preserved : (n : ℕ) (o : Option Block) → has_len n (option_map unmarked o) ≡ has_len n o
-len_preserved n None = refl
-len_preserved n (Some b) = refl
+len_kept : (n : ℕ) (o : Option Block) → has_len n (option_map unmarked o) ≡ has_len n o
+len_kept n None = refl
+len_kept n (Some b) = refl
 
-known_preserved : (h : Host) (r : Region) → is_known (without_marks h) r ≡ is_known h r
-known_preserved h r = ap (has_len r.size) (slice_get-map unmarked h.blocks r.block) ∙ len_preserved r.size (slice_get h.blocks r.block)
+known_kept : (h : Host) (r : Region) → is_known (without_marks h) r ≡ is_known h r
+known_kept h r = ap (has_len r.size) (slice_get-map unmarked h.blocks r.block) ∙ len_kept r.size (slice_get h.blocks r.block)
 
 module _ {F : Type 0} (s : State F) (h : Host) (same : without_marks s.memory.host ≡ without_marks h) where
   refused_alike : (refusal : Refusal) → EffectAlike (no refusal s) (no refusal (with_host s h))
@@ -210,9 +210,9 @@ module _ {F : Type 0} (s : State F) (h : Host) (same : without_marks s.memory.ho
 
   read_alike : (a n : ℕ) → EffectAlike (guest_read s a n) (guest_read (with_host s h) a n)
   read_alike a n =
-      let reported = ap (λ (f : ℕ → ℕ). run.Bytes (map f (addresses a n)))
+      let turns = ap (λ (f : ℕ → ℕ). run.Bytes (map f (addresses a n)))
       (sym (bytes_same (physical s.memory) (physical (with_host s h).memory) physical_alike)) in
-      either_alike (reach (physical s.memory) Read a n) _ _ _ _ (record { answer = reported; state = same_state s h same })
+      either_alike (reach (physical s.memory) Read a n) _ _ _ _ (record { answer = turns; state = same_state s h same })
       (refused_alike why.NoPlace)
 
   write_alike : (a : ℕ) (bs : List ℕ) → EffectAlike (guest_write s a bs) (guest_write (with_host s h) a bs)
@@ -258,7 +258,7 @@ module _ {F : Type 0} (s : State F) (h : Host) (same : without_marks s.memory.ho
   layout_alike : (layout : List Region) → EffectAlike (set_layout s layout) (set_layout (with_host s h) layout)
   layout_alike layout =
       let known : is_known s.memory.host ≡ is_known h =
-      sym (fun_ext (known_preserved s.memory.host)) ∙ ap is_known same ∙ fun_ext (known_preserved h) in
+      sym (fun_ext (known_kept s.memory.host)) ∙ ap is_known same ∙ fun_ext (known_kept h) in
       either_as _ _ _ _ _ _ (ap (λ (f : Region → Bool). not (list_all f layout)) known) (refused_alike why.UnknownBlock)
       (either_alike (not (list_all fits layout)) _ _ _ _ (refused_alike why.BadRegion)
       (either_alike (some_overlap layout) _ _ _ _ (refused_alike why.Overlap)
@@ -365,15 +365,15 @@ module _ {F : Type 0} (s : State F) (h : Host) (same : without_marks s.memory.ho
   affect_alike (run.Kick i most) answer after t = absurd t
   affect_alike command answer after t = answered_by_effect command answer after t
 
-  has_effect_alike : (command : Command) (reported : Turns) (answer : Answer) (after : State F) → HasEffect s command reported answer after
-      → AnsweredAlike (λ other end. HasEffect (with_host s h) command reported other end) answer after
+  has_effect_alike : (command : Command) (turns : Turns) (answer : Answer) (after : State F) → HasEffect s command turns answer after
+      → AnsweredAlike (λ other end. HasEffect (with_host s h) command turns other end) answer after
   has_effect_alike command [] answer after t = affect_alike command answer after t
-  has_effect_alike command (x ∷ reported) answer after t = absurd t
+  has_effect_alike command (x ∷ turns) answer after t = absurd t
 
-  lack_alike : (command : Command) (reported : Turns) (after : State F) → LacksMemory s command reported after →
-      Matched (λ end. LacksMemory (with_host s h) command reported end) after
+  lack_alike : (command : Command) (turns : Turns) (after : State F) → LacksMemory s command turns after →
+      Matched (λ end. LacksMemory (with_host s h) command turns end) after
   lack_alike command [] after t = (with_host s h, (subst IsTrue (takes_alike command) t.0, refl), unchanged_alike s h same after t.1)
-  lack_alike command (x ∷ reported) after t = absurd t
+  lack_alike command (x ∷ turns) after t = absurd t
 
 -- an answer that isn't a failed allocation
 abbrev Suffices : Answer → Type 0
@@ -382,58 +382,58 @@ Suffices answer = Unit {0}
 
 module _ {F : Type 0} (may : May F) where
   does_alike : (s : State F) (h : Host) → without_marks s.memory.host ≡ without_marks h →
-      (command : Command) (reported : Turns) (answer : Answer) (after : State F) →
-      Does may s command reported answer after → AnsweredAlike (λ other end. Does may (with_host s h) command reported other end) answer
+      (command : Command) (turns : Turns) (answer : Answer) (after : State F) →
+      Does may s command turns answer after → AnsweredAlike (λ other end. Does may (with_host s h) command turns other end) answer
       after
-  does_alike s h same (run.Kick i most) reported (run.Served k) after t =
-      answered_so (λ other end. Does may (with_host s h) (run.Kick i most) reported other end) (run.Served k) after
-      (kicks_alike may s (with_host s h) (same_state s h same) i most (slice_get s.queues i) reported k after t)
-  does_alike s h same (run.Kick i most) reported answer after t = absurd t
-  does_alike s h same command reported answer after t = has_effect_alike s h same command reported answer after t
+  does_alike s h same (run.Kick i most) turns (run.Served k) after t =
+      answered_so (λ other end. Does may (with_host s h) (run.Kick i most) turns other end) (run.Served k) after
+      (kicks_alike may s (with_host s h) (same_state s h same) i most (slice_get s.queues i) turns k after t)
+  does_alike s h same (run.Kick i most) turns answer after t = absurd t
+  does_alike s h same command turns answer after t = has_effect_alike s h same command turns answer after t
 
   performed :
-      (s : State F) (command : Command) (reported : Turns) (answer other : Answer) (end : State F) → Suffices answer
+      (s : State F) (command : Command) (turns : Turns) (answer other : Answer) (end : State F) → Suffices answer
       → SameAnswer answer other →
-      Does may s command reported other end → Performs may s command reported other end
-  performed s command reported (run.IsRefused why.OutOfMemory) other end enough same does = absurd enough
-  performed s command reported (run.Pages old) (run.Pages new) end enough same does = does
-  performed s command reported (run.Pages old) other end enough same does = absurd same
-  performed s command reported (run.Copied old) (run.Copied new) end enough same does = does
-  performed s command reported (run.Copied old) other end enough same does = absurd same
-  performed s command reported answer other end enough same does =
-      subst (λ (a : Answer). Performs may s command reported a end) (sym same)
-      (subst (λ (a : Answer). Does may s command reported a end) same does)
+      Does may s command turns other end → Performs may s command turns other end
+  performed s command turns (run.IsRefused why.OutOfMemory) other end enough same does = absurd enough
+  performed s command turns (run.Pages old) (run.Pages new) end enough same does = does
+  performed s command turns (run.Pages old) other end enough same does = absurd same
+  performed s command turns (run.Copied old) (run.Copied new) end enough same does = does
+  performed s command turns (run.Copied old) other end enough same does = absurd same
+  performed s command turns answer other end enough same does =
+      subst (λ (a : Answer). Performs may s command turns a end) (sym same)
+      (subst (λ (a : Answer). Does may s command turns a end) same does)
 
   performs_over : (s : State F) (h : Host) → without_marks s.memory.host ≡ without_marks h →
-      (command : Command) (reported : Turns) (answer : Answer) (after : State F) →
-      Performs may s command reported answer after →
-      AnsweredAlike (λ other end. Performs may (with_host s h) command reported other end) answer after
-  performs_over s h same command reported (run.IsRefused why.OutOfMemory) after t =
-      answered_so (λ other end. Performs may (with_host s h) command reported other end) (run.IsRefused why.OutOfMemory) after
-      (lack_alike s h same command reported after t)
-  performs_over s h same command reported answer after t =
-      let new = does_alike s h same command reported answer after t in
-      (new.0, new.1, new.2, performed (with_host s h) command reported answer new.0 new.1 tt new.2 new.3, new.4)
+      (command : Command) (turns : Turns) (answer : Answer) (after : State F) →
+      Performs may s command turns answer after →
+      AnsweredAlike (λ other end. Performs may (with_host s h) command turns other end) answer after
+  performs_over s h same command turns (run.IsRefused why.OutOfMemory) after t =
+      answered_so (λ other end. Performs may (with_host s h) command turns other end) (run.IsRefused why.OutOfMemory) after
+      (lack_alike s h same command turns after t)
+  performs_over s h same command turns answer after t =
+      let new = does_alike s h same command turns answer after t in
+      (new.0, new.1, new.2, performed (with_host s h) command turns answer new.0 new.1 tt new.2 new.3, new.4)
 
-  performs_alike : (s t : State F) → SameButMarks s t → (command : Command) (reported : Turns) (answer : Answer) (after : State F) →
-      Performs may s command reported answer after →
-      AnsweredAlike (λ other end. Performs may t command reported other end) answer after
-  performs_alike s t same command reported answer after performs =
-      over_host s t (λ (k : State F). AnsweredAlike (λ other end. Performs may k command reported other end) answer after) same
-      (λ h alike. performs_over s h alike command reported answer after performs)
+  performs_alike : (s t : State F) → SameButMarks s t → (command : Command) (turns : Turns) (answer : Answer) (after : State F) →
+      Performs may s command turns answer after →
+      AnsweredAlike (λ other end. Performs may t command turns other end) answer after
+  performs_alike s t same command turns answer after performs =
+      over_host s t (λ (k : State F). AnsweredAlike (λ other end. Performs may k command turns other end) answer after) same
+      (λ h alike. performs_over s h alike command turns answer after performs)
 
   -- ---- runs
 
   -- a run from a state that differs in marks alone
   pub run_alike :
-      (s t after : State F) (events : List (Command × Answer)) (all_reported : List Turns) → SameButMarks s t
-      → RunReported may s events all_reported after →
-      (others : List (Command × Answer)) × (end : State F) × SameEvents events others × RunReported may t others all_reported end
+      (s t after : State F) (events : List (Command × Answer)) (all_turns : List Turns) → SameButMarks s t
+      → RunReported may s events all_turns after →
+      (others : List (Command × Answer)) × (end : State F) × SameEvents events others × RunReported may t others all_turns end
       × SameButMarks after end
   unfolding RunReported
   run_alike s t after [] [] same ran = ([], t, tt, refl, ap without_its_marks ran ∙ same)
-  run_alike s t after (e ∷ es) (reported ∷ all_reported) same (mid, performs, rest) =
-      let first = performs_alike s t same e.0 reported e.1 mid performs in
-      let others = run_alike mid first.1 after es all_reported first.4 rest in
+  run_alike s t after (e ∷ es) (turns ∷ all_turns) same (mid, performs, rest) =
+      let first = performs_alike s t same e.0 turns e.1 mid performs in
+      let others = run_alike mid first.1 after es all_turns first.4 rest in
       ((e.0, first.0) ∷ others.0, others.1, (refl, first.2, others.2), (first.1, first.3, others.3), others.4)
   run_alike s t after _ _ same ran = absurd ran

@@ -93,22 +93,22 @@ by_entry : (n : ℕ) (o : Opcode) (c : FileCall) (unique : ℕ) (a : FileAnswer)
     kind_of c ≡ call.IsEntry →
     ((bytes : List ℕ) → suits c (call.Bytes bytes) ≡ false) → IsTrue (suits c a) →
     Counted n o unique c a
-by_entry n o c unique (call.Failed errno) begins reported kind no_bytes fits = failed_counts n o unique errno
-by_entry n o c unique (call.HasEntry e) begins reported kind no_bytes fits =
-    rw reported (entry_alone n o unique e begins (ltb-true e.inode (2 ^ 64) (rw kind at fits)))
-by_entry n o c unique (call.Bytes bytes) begins reported kind no_bytes fits = not_true (sym (no_bytes bytes) ∙ fits)
-by_entry n o c unique _ begins reported kind no_bytes fits = not_true (rw kind at fits)
+by_entry n o c unique (call.Failed errno) begins reply_is kind no_bytes fits = failed_counts n o unique errno
+by_entry n o c unique (call.HasEntry e) begins reply_is kind no_bytes fits =
+    rw reply_is (entry_alone n o unique e begins (ltb-true e.inode (2 ^ 64) (rw kind at fits)))
+by_entry n o c unique (call.Bytes bytes) begins reply_is kind no_bytes fits = not_true (sym (no_bytes bytes) ∙ fits)
+by_entry n o c unique _ begins reply_is kind no_bytes fits = not_true (rw kind at fits)
 
 by_creation : (n : ℕ) (o : Opcode) (c : FileCall) (unique : ℕ) (a : FileAnswer) → replies_entry o ≡ true → is_silent c ≡ false →
     kind_of c ≡ call.IsCreate →
     ((bytes : List ℕ) → suits c (call.Bytes bytes) ≡ false) → IsTrue (suits c a) →
     Counted n o unique c a
-by_creation n o c unique (call.Failed errno) begins reported kind no_bytes fits = failed_counts n o unique errno
-by_creation n o c unique (call.Created e handle options) begins reported kind no_bytes fits =
-    rw reported (entry_counts n o unique e (spelled (open_out (open_out_of handle options))) begins
+by_creation n o c unique (call.Failed errno) begins reply_is kind no_bytes fits = failed_counts n o unique errno
+by_creation n o c unique (call.Created e handle options) begins reply_is kind no_bytes fits =
+    rw reply_is (entry_counts n o unique e (spelled (open_out (open_out_of handle options))) begins
     (ltb-true e.inode (2 ^ 64) (and_parts (nat_lt e.inode (2 ^ 64)) (call.is_handle handle) (rw kind at fits)).0))
-by_creation n o c unique (call.Bytes bytes) begins reported kind no_bytes fits = not_true (sym (no_bytes bytes) ∙ fits)
-by_creation n o c unique _ begins reported kind no_bytes fits = not_true (rw kind at fits)
+by_creation n o c unique (call.Bytes bytes) begins reply_is kind no_bytes fits = not_true (sym (no_bytes bytes) ∙ fits)
+by_creation n o c unique _ begins reply_is kind no_bytes fits = not_true (rw kind at fits)
 
 -- each call, at an opcode that is like it
 call_fits : (n : ℕ) (c : FileCall) → CallFits n (Some (like_of c)) c

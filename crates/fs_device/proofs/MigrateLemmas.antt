@@ -124,10 +124,10 @@ answered_next : (first now new whole : Host) (answers : List said.Answer) (i : �
 answered_next first now new whole answers i a ps lt is has put same left =
     let rest = pages_of_answers (drop (i + 1) answers) in
     let next = pages_from answers i a ps lt is has in
-    let preserved : lengths new ≡ lengths now = ap (λ (s : Shape). s.block_lengths) same in
+    let kept : lengths new ≡ lengths now = ap (λ (s : Shape). s.block_lengths) same in
     let there = subst (HavePlaces (lengths now)) next left.1 in (
       ap (λ (h : Host). pages_put h rest) put ∙ sym (pages_put-append now ps rest) ∙ sym (ap (pages_put now) next) ∙ left.0,
-      subst (λ (ls : List ℕ). HavePlaces ls rest) (sym preserved) (places_back (lengths now) ps rest 0 (there 0)),
+      subst (λ (ls : List ℕ). HavePlaces ls rest) (sym kept) (places_back (lengths now) ps rest 0 (there 0)),
       same ∙ left.2,
     )
 
@@ -184,9 +184,9 @@ one_before may s mid after e es ts performs rest = (mid, performs, rest)
 between : {F : Type 0} (may : May F) (s began mid after : State F) (image harvest : Answer) (events : List (Command × Answer)) →
     Performs may s run.Image [] image began → Run may began events mid → Performs may mid run.Harvest [] harvest after →
     Run may s ((run.Image, image) ∷ events ++ (run.Harvest, harvest) ∷ []) after
-between may s began mid after image harvest events imaged (all_reported, did) harvested =
-    let all = runs_joined may began mid after events _ all_reported _ did (one_command may mid after (run.Harvest, harvest) harvested) in
-    ([] ∷ (all_reported ++ [] ∷ []), one_before may s began after (run.Image, image) _ _ imaged all)
+between may s began mid after image harvest events imaged (all_turns, did) harvested =
+    let all = runs_joined may began mid after events _ all_turns _ did (one_command may mid after (run.Harvest, harvest) harvested) in
+    ([] ∷ (all_turns ++ [] ∷ []), one_before may s began after (run.Image, image) _ _ imaged all)
 
 -- each command may follow an image
 abbrev CanFollow : List fetched.Command → Type 0
@@ -225,12 +225,12 @@ pub stays_off : {F : Type 0} (may : May F) (s began mid : State F) (copy : Host)
     CanMoveAgain may →
     s.memory.translates ≡ false → HasItsMarks s.memory.host → CanFollow cs →
     Performs may s run.Image [] (run.Copied copy) began → Run may began (with_answers cs answers) mid → mid.memory.translates ≡ false
-stays_off may s began mid copy cs answers law off marks follow imaged (all_reported, did) =
+stays_off may s began mid copy cs answers law off marks follow imaged (all_turns, did) =
     let from : RunsFromImage may s copy (with_answers cs answers) mid = record {
       off = off;
       marks = marks;
       follow = all_follow cs answers follow;
-      run = ([] ∷ all_reported, one_before may s began mid (run.Image, run.Copied copy) _ _ imaged did);
+      run = ([] ∷ all_turns, one_before may s began mid (run.Image, run.Copied copy) _ _ imaged did);
     } in
     (law s mid copy (with_answers cs answers) from).0
 
@@ -296,8 +296,8 @@ pub put_whole : (copy one two : Host) (xs ys : List Page) (r : Result (Unit {0})
     shape one ≡ shape copy → first_refused (lengths copy) 0 (xs ++ ys) ≡ None →
     r ≡ applied (first_refused (lengths one) 0 ys) → OnOk r (two ≡ pages_put one ys) → two ≡ pages_put copy (xs ++ ys)
 put_whole copy one two xs ys r put same places outcome ok =
-    let preserved : lengths one ≡ lengths copy = ap (λ (s : Shape). s.block_lengths) same in
-    let none = ap (λ (ls : List ℕ). first_refused ls 0 ys) preserved ∙ (places_split (lengths copy) xs ys places).1 in
+    let kept : lengths one ≡ lengths copy = ap (λ (s : Shape). s.block_lengths) same in
+    let none = ap (λ (ls : List ℕ). first_refused ls 0 ys) kept ∙ (places_split (lengths copy) xs ys places).1 in
     put_all r _ outcome none ok ∙ ap (λ (h : Host). pages_put h ys) put ∙ sym (pages_put-append copy xs ys)
 
 -- the pages of answers and of a last harvest are those that the run answered
@@ -324,7 +324,7 @@ is_moved {F} may s here there copy events last ps law from same is =
       from = from;
       over = over;
       same = whole;
-      carries_on = λ later all_reported end ran.
-          runs_joined may s here end ((run.Image, run.Copied copy) ∷ until_harvest events last) later done.0 all_reported done.1
-          (subst (λ (k : State F). RunReported may k later all_reported end) whole ran);
+      carries_on = λ later all_turns end ran.
+          runs_joined may s here end ((run.Image, run.Copied copy) ∷ until_harvest events last) later done.0 all_turns done.1
+          (subst (λ (k : State F). RunReported may k later all_turns end) whole ran);
     }

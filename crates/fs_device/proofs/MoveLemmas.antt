@@ -64,20 +64,20 @@ step_held may image s after i calls x notice step h =
 -- ---- kicks
 
 kick_held :
-    {F : Type 0} (may : May F) (image : Host) (s : State F) (i most : ℕ) (reported : Turns) (refused : Option DeviceError) (after : State F)
-    → KickRun may s i most reported refused after → HeldIn image s → HeldIn image after
+    {F : Type 0} (may : May F) (image : Host) (s : State F) (i most : ℕ) (turns : Turns) (refused : Option DeviceError) (after : State F)
+    → KickRun may s i most turns refused after → HeldIn image s → HeldIn image after
 unfolding KickRun
 kick_held may image s i most [] refused after t h = subst (TracksOn image) (sym (end_keeps may s i most refused after t)) h
-kick_held may image s i zero (x ∷ reported) refused after t h = absurd t
-kick_held may image s i (suc most) (x ∷ reported) refused after (mid, step, rest) h =
-    kick_held may image mid i most reported refused after rest
+kick_held may image s i zero (x ∷ turns) refused after t h = absurd t
+kick_held may image s i (suc most) (x ∷ turns) refused after (mid, step, rest) h =
+    kick_held may image mid i most turns refused after rest
     (step_held may image s mid i x.calls x.exchange x.notice step h)
 
-kicks_held : {F : Type 0} (may : May F) (image : Host) (s : State F) (i most : ℕ) (o : Option Queue) (reported : Turns) (k : KickAnswer)
+kicks_held : {F : Type 0} (may : May F) (image : Host) (s : State F) (i most : ℕ) (o : Option Queue) (turns : Turns) (k : KickAnswer)
     (after : State F) →
-    Kicks may s i most o reported k after → HeldIn image s → HeldIn image after
-kicks_held may image s i most None reported k after t h = subst (HeldIn image) (sym t.0) h
-kicks_held may image s i most (Some q) reported k after t h = kick_held may image s i most reported k.refused after t.0 h
+    Kicks may s i most o turns k after → HeldIn image s → HeldIn image after
+kicks_held may image s i most None turns k after t h = subst (HeldIn image) (sym t.0) h
+kicks_held may image s i most (Some q) turns k after t h = kick_held may image s i most turns k.refused after t.0 h
 
 -- ---- commands
 
@@ -157,28 +157,28 @@ affect_proceeds image s (run.ResetQueue queue size desc avail used) answer after
 affect_proceeds image s run.Harvest answer after follows h t = by_effect image (run.harvest s) answer after t (harvest_proceeds image s h)
 affect_proceeds image s _ answer after follows h t = absurd (cc)
 
-effect_proceeds : {F : Type 0} (image : Host) (s : State F) (command : Command) (reported : Turns) (answer : Answer) (after : State F) →
+effect_proceeds : {F : Type 0} (image : Host) (s : State F) (command : Command) (turns : Turns) (answer : Answer) (after : State F) →
     IsTrue (follows_image command) → HeldIn image s →
-    HasEffect s command reported answer after → Continues image (answer, after)
+    HasEffect s command turns answer after → Continues image (answer, after)
 effect_proceeds image s command [] answer after follows h t = affect_proceeds image s command answer after follows h t
-effect_proceeds image s command (x ∷ reported) answer after follows h t = absurd t
+effect_proceeds image s command (x ∷ turns) answer after follows h t = absurd t
 
-does_proceeds : {F : Type 0} (may : May F) (image : Host) (s : State F) (command : Command) (reported : Turns) (answer : Answer)
+does_proceeds : {F : Type 0} (may : May F) (image : Host) (s : State F) (command : Command) (turns : Turns) (answer : Answer)
     (after : State F) →
     IsTrue (follows_image command) → HeldIn image s →
-    Does may s command reported answer after → Continues image (answer, after)
-does_proceeds may image s (run.Kick i most) reported (run.Served k) after follows h t =
-    proceeds image (kicks_held may image s i most (slice_get s.queues i) reported k after t h)
-does_proceeds may image s (run.Kick i most) reported _ after follows h t = absurd t
-does_proceeds may image s command reported answer after follows h t = effect_proceeds image s command reported answer after follows h t
+    Does may s command turns answer after → Continues image (answer, after)
+does_proceeds may image s (run.Kick i most) turns (run.Served k) after follows h t =
+    proceeds image (kicks_held may image s i most (slice_get s.queues i) turns k after t h)
+does_proceeds may image s (run.Kick i most) turns _ after follows h t = absurd t
+does_proceeds may image s command turns answer after follows h t = effect_proceeds image s command turns answer after follows h t
 
-performs_proceeds : {F : Type 0} (may : May F) (image : Host) (s : State F) (command : Command) (reported : Turns) (answer : Answer)
+performs_proceeds : {F : Type 0} (may : May F) (image : Host) (s : State F) (command : Command) (turns : Turns) (answer : Answer)
     (after : State F) → IsTrue (follows_image command) → HeldIn image s →
-    Performs may s command reported answer after → Continues image (answer, after)
+    Performs may s command turns answer after → Continues image (answer, after)
 performs_proceeds may image s command [] (run.IsRefused why.OutOfMemory) after follows h t =
     proceeds image (subst (HeldIn image) (sym t.1) h)
-performs_proceeds may image s command (x ∷ reported) (run.IsRefused why.OutOfMemory) after follows h t = absurd t
-performs_proceeds may image s command reported _ after follows h t = does_proceeds may image s command reported _ after follows h t
+performs_proceeds may image s command (x ∷ turns) (run.IsRefused why.OutOfMemory) after follows h t = absurd t
+performs_proceeds may image s command turns _ after follows h t = does_proceeds may image s command turns _ after follows h t
 
 -- ---- runs
 
@@ -189,14 +189,14 @@ CanFollow events = AllByRecursion (λ e. IsTrue (follows_image e.0)) events
 abbrev Arrives : {F : Type 0} → Host → List (Command × Answer) → State F → Type 0
 Arrives image events after = HeldIn (pages_put image (pages_answered events)) after × HavePlaces (lengths image) (pages_answered events)
 
-run_proceeds : {F : Type 0} (may : May F) (image : Host) (s : State F) (events : List (Command × Answer)) (all_reported : List Turns)
+run_proceeds : {F : Type 0} (may : May F) (image : Host) (s : State F) (events : List (Command × Answer)) (all_turns : List Turns)
     (after : State F) → CanFollow events → HeldIn image s →
-    RunReported may s events all_reported after → Arrives image events after
+    RunReported may s events all_turns after → Arrives image events after
 unfolding RunReported
 run_proceeds may image s [] [] after follows h t = subst (λ s. Arrives image [] s) (sym t) (let now = proceeds image h in (now.0, now.1))
-run_proceeds may image s (e ∷ es) (reported ∷ all_reported) after follows h (mid, performs, rest) =
-    let now = performs_proceeds may image s e.0 reported e.1 mid follows.0 h performs in
-    let later = run_proceeds may (pages_put image (pages_of_answer e.1)) mid es all_reported after follows.1 now.0 rest in (
+run_proceeds may image s (e ∷ es) (turns ∷ all_turns) after follows h (mid, performs, rest) =
+    let now = performs_proceeds may image s e.0 turns e.1 mid follows.0 h performs in
+    let later = run_proceeds may (pages_put image (pages_of_answer e.1)) mid es all_turns after follows.1 now.0 rest in (
       subst (λ (k : Host). HeldIn k after) (sym (pages_put-append image (pages_of_answer e.1) (pages_answered es))) later.0,
       places-append (lengths image) (pages_of_answer e.1) (pages_answered es) now.1
           (subst (λ (l : List ℕ). HavePlaces l (pages_answered es)) now.2 later.1),
@@ -204,29 +204,29 @@ run_proceeds may image s (e ∷ es) (reported ∷ all_reported) after follows h 
 run_proceeds may image s _ _ after follows h t = absurd t
 
 -- an image that answered its copy tracks the state after
-image_held : {F : Type 0} (may : May F) (s : State F) (copy : Host) (reported : Turns) (after : State F) → s.memory.translates ≡ false →
+image_held : {F : Type 0} (may : May F) (s : State F) (copy : Host) (turns : Turns) (after : State F) → s.memory.translates ≡ false →
     HasItsMarks s.memory.host →
-    Performs may s run.Image reported (run.Copied copy) after → HeldIn copy after
+    Performs may s run.Image turns (run.Copied copy) after → HeldIn copy after
 unfolding effect
 image_held {F} may s copy [] after off marks t =
     let answer : run.Copied copy ≡ run.Copied (cleared s.memory.host) = ap (λ (p : Effect F). p.0) t in
     let is : copy ≡ cleared s.memory.host = cc in
     subst (λ (k : Host). HeldIn k after) (sym is)
     (subst (λ (p : Effect F). HeldIn (cleared s.memory.host) p.1) (sym t) (off, tracks_copy s.memory.host marks))
-image_held may s copy (x ∷ reported) after off marks t = absurd t
+image_held may s copy (x ∷ turns) after off marks t = absurd t
 
 -- what a run from an image begins with, once the image was made
 abbrev ProceedsFrom : {F : Type 0} → May F → Host → List (Command × Answer) → State F → Type 0
 ProceedsFrom {F} may copy events after =
-    (mid : State F) × (all_reported : List Turns) × HeldIn copy mid × RunReported may mid events all_reported after
+    (mid : State F) × (all_turns : List Turns) × HeldIn copy mid × RunReported may mid events all_turns after
 
-begins : {F : Type 0} (may : May F) (s after : State F) (copy : Host) (events : List (Command × Answer)) (all_reported : List Turns) →
+begins : {F : Type 0} (may : May F) (s after : State F) (copy : Host) (events : List (Command × Answer)) (all_turns : List Turns) →
     s.memory.translates ≡ false → HasItsMarks s.memory.host →
-    RunReported may s ((run.Image, run.Copied copy) ∷ events) all_reported after → ProceedsFrom may copy events after
+    RunReported may s ((run.Image, run.Copied copy) ∷ events) all_turns after → ProceedsFrom may copy events after
 unfolding RunReported
 begins may s after copy events [] off marks t = absurd t
-begins may s after copy events (reported ∷ all_reported) off marks (mid, performs, rest) =
-    (mid, all_reported, image_held may s copy reported mid off marks performs, rest)
+begins may s after copy events (turns ∷ all_turns) off marks (mid, performs, rest) =
+    (mid, all_turns, image_held may s copy turns mid off marks performs, rest)
 
 from_image : {F : Type 0} (may : May F) (s after : State F) (copy : Host) (events : List (Command × Answer)) →
     RunsFromImage may s copy events after → ProceedsFrom may copy events after
@@ -261,35 +261,35 @@ can_move_again may s after copy events r =
 -- a run up to its last command, and that command
 abbrev Ends : {F : Type 0} → May F → State F → List (Command × Answer) → Command × Answer → State F → Type 0
 Ends {F} may s events e after =
-    (mid : State F) × (all_reported : List Turns) × (reported : Turns) × RunReported may s events all_reported mid
-    × Performs may mid e.0 reported e.1 after
+    (mid : State F) × (all_turns : List Turns) × (turns : Turns) × RunReported may s events all_turns mid
+    × Performs may mid e.0 turns e.1 after
 
-ends : {F : Type 0} (may : May F) (s after : State F) (events : List (Command × Answer)) (e : Command × Answer) (all_reported : List Turns)
-    → RunReported may s (events ++ e ∷ []) all_reported after → Ends may s events e after
+ends : {F : Type 0} (may : May F) (s after : State F) (events : List (Command × Answer)) (e : Command × Answer) (all_turns : List Turns)
+    → RunReported may s (events ++ e ∷ []) all_turns after → Ends may s events e after
 unfolding RunReported
 ends may s after [] e [] t = absurd t
-ends may s after [] e (reported ∷ []) (mid, performs, rest) =
-    (s, [], reported, refl, subst (λ k. Performs may s e.0 reported e.1 k) (sym rest) performs)
-ends may s after [] e (reported ∷ x ∷ all_reported) (mid, performs, rest) = absurd rest
+ends may s after [] e (turns ∷ []) (mid, performs, rest) =
+    (s, [], turns, refl, subst (λ k. Performs may s e.0 turns e.1 k) (sym rest) performs)
+ends may s after [] e (turns ∷ x ∷ all_turns) (mid, performs, rest) = absurd rest
 ends may s after (x ∷ events) e [] t = absurd t
-ends may s after (x ∷ events) e (reported ∷ all_reported) (mid, performs, rest) =
-    let later = ends may mid after events e all_reported rest in
-    (later.0, reported ∷ later.1, later.2, (mid, performs, later.3), later.4)
+ends may s after (x ∷ events) e (turns ∷ all_turns) (mid, performs, rest) =
+    let later = ends may mid after events e all_turns rest in
+    (later.0, turns ∷ later.1, later.2, (mid, performs, later.3), later.4)
 
 follow_front : (events : List (Command × Answer)) (e : Command × Answer) → CanFollow (events ++ e ∷ []) → CanFollow events
 follow_front [] e f = tt
 follow_front (x ∷ events) e f = (f.0, follow_front events e f.1)
 
 last_is_host :
-    {F : Type 0} (may : May F) (image : Host) (mid after : State F) (reported : Turns) (last : List Page) → Tracks image mid.memory.host →
-    Performs may mid run.Harvest reported (run.Pages last) after → pages_put image last ≡ after.memory.host
+    {F : Type 0} (may : May F) (image : Host) (mid after : State F) (turns : Turns) (last : List Page) → Tracks image mid.memory.host →
+    Performs may mid run.Harvest turns (run.Pages last) after → pages_put image last ≡ after.memory.host
 unfolding effect
 last_is_host {F} may image mid after [] last f t =
     let answer : run.Pages last ≡ run.Pages (harvested mid.memory.host) = ap (λ (p : Effect F). p.0) t in
     let is : last ≡ harvested mid.memory.host = cc in
     let host : after.memory.host ≡ cleared mid.memory.host = ap (λ (p : Effect F). p.1.memory.host) t in
     ap (pages_put image) is ∙ harvest_is_host image mid.memory.host f ∙ sym host
-last_is_host may image mid after (x ∷ reported) last f t = absurd t
+last_is_host may image mid after (x ∷ turns) last f t = absurd t
 
 pages_in_all : (events : List (Command × Answer)) (last : List Page) →
     pages_answered (events ++ (run.Harvest, run.Pages last) ∷ []) ≡ pages_answered events ++ last

@@ -66,18 +66,18 @@ grown_marks (b ∷ blocks) n (suc block) page = grown_marks blocks n block page
 module _ {F : Type 0} (may : May F) where
   -- nothing was written
   abbrev Marked : State F → ℕ → ℕ → Turns → State F → Type 0
-  Marked s i most reported after = (written : List ℕ) × KickWrites may s i most reported written × Marks s.memory written after.memory.host
+  Marked s i most turns after = (written : List ℕ) × KickWrites may s i most turns written × Marks s.memory written after.memory.host
 
   nothing_marked : (s : State F) (i most : ℕ) (after : State F) → after.memory ≡ s.memory → Marked s i most [] after
   unfolding KickWrites
   nothing_marked s i most after same = ([], refl, subst (λ (m : Memory). Marks s.memory [] m.host) (sym same) (none_written s.memory))
 
-  kick_marks : (s : State F) (i most : ℕ) (reported : Turns) (refused : Option DeviceError) (after : State F) →
-      KickRun may s i most reported refused after → Marked s i most reported after
+  kick_marks : (s : State F) (i most : ℕ) (turns : Turns) (refused : Option DeviceError) (after : State F) →
+      KickRun may s i most turns refused after → Marked s i most turns after
   unfolding KickRun KickWrites
   kick_marks s i most [] refused after t = nothing_marked s i most after (end_keeps may s i most refused after t)
-  kick_marks s i zero (x ∷ reported) refused after t = absurd t
-  kick_marks s i (suc most) (x ∷ reported) refused after (mid, step, rest) =
+  kick_marks s i zero (x ∷ turns) refused after t = absurd t
+  kick_marks s i (suc most) (x ∷ turns) refused after (mid, step, rest) =
       let found = step_offers may s mid i x.calls x.exchange x.notice step in
       let o = found.0 in
       let ws = writes o.queue x.exchange.head (room_of o.fetched) x.exchange.reply in
@@ -85,17 +85,17 @@ module _ {F : Type 0} (may : May F) where
       let here : Marks s.memory (map (λ w. w.0) ws) mid.memory.host =
       subst (λ (m : Memory). Marks s.memory (map (λ w. w.0) ws) m.host) (sym is) (writes_mark s.memory ws) in
       let same : ways mid.memory ≡ ways s.memory = ap ways is ∙ ways_stay s.memory ws in
-      let later = kick_marks mid i most reported refused after rest in (
+      let later = kick_marks mid i most turns refused after rest in (
         map (λ w. w.0) ws ++ later.0,
         (mid, step, o, later.0, later.1, refl),
         marks_join s.memory mid.memory (map (λ w. w.0) ws) later.0 after.memory.host same here later.2,
       )
 
-  kicks_mark : (s : State F) (i most : ℕ) (o : Option Queue) (reported : Turns) (k : KickAnswer) (after : State F) →
-      Kicks may s i most o reported k after → Marked s i most reported after
-  kicks_mark s i most None reported k after t =
+  kicks_mark : (s : State F) (i most : ℕ) (o : Option Queue) (turns : Turns) (k : KickAnswer) (after : State F) →
+      Kicks may s i most o turns k after → Marked s i most turns after
+  kicks_mark s i most None turns k after t =
       subst (λ (l : Turns). Marked s i most l after) (sym t.1) (nothing_marked s i most after (ap (λ (k : State F). k.memory) t.0))
-  kicks_mark s i most (Some q) reported k after t = kick_marks s i most reported k.refused after t.0
+  kicks_mark s i most (Some q) turns k after t = kick_marks s i most turns k.refused after t.0
 
 -- ---- what the other commands do
 
@@ -122,20 +122,20 @@ whichever may s command true x y p q = p
 whichever may s command false x y p q = q
 
 module _ {F : Type 0} (may : May F) (s : State F) where
-  preserved : KeepsMarks s.memory.host s.memory.host
-  preserved = keeps s.memory.host
+  kept : KeepsMarks s.memory.host s.memory.host
+  kept = keeps s.memory.host
 
   block_marks : (base block : ℕ) (o : Option Block) → EffectMarks may s (run.InsertRegion base block) (insert_block s base block o)
-  block_marks base block None = preserved
+  block_marks base block None = kept
   block_marks base block (Some b) =
       let r : Region = record { start = base; size = length b.bytes; block = block } in
-      whichever may s (run.InsertRegion base block) (not (fits r)) _ _ preserved
-      (whichever may s (run.InsertRegion base block) (list_any (overlap r) s.memory.layout) _ _ preserved preserved)
+      whichever may s (run.InsertRegion base block) (not (fits r)) _ _ kept
+      (whichever may s (run.InsertRegion base block) (list_any (overlap r) s.memory.layout) _ _ kept kept)
 
   reset_marks : (i size desc avail used : ℕ) (o : Option Queue) →
       EffectMarks may s (run.ResetQueue i size desc avail used) (reset s i (fresh size desc avail used) o)
-  reset_marks i size desc avail used None = preserved
-  reset_marks i size desc avail used (Some q) = preserved
+  reset_marks i size desc avail used None = kept
+  reset_marks i size desc avail used (Some q) = kept
 
   table_marks : (fit : Bool) (table : Table) (answer : Answer) (after : State F) (command : Command) →
       ((end : State F) → KeepsMarks s.memory.host end.memory.host → DoneMarks s command end) →
@@ -146,34 +146,34 @@ module _ {F : Type 0} (may : May F) (s : State F) where
       let host : KeepsMarks s.memory.host after.memory.host =
       subst (λ (k : State F). KeepsMarks s.memory.host k.memory.host) (sym t.1.3) there in
       subst (λ (a : Answer). AnswerMarks may a s command [] after) (sym t.0) (done after host)
-  table_marks false table answer after command done t = by_effect may s command (run.no why.BadMapping s) answer after t preserved
+  table_marks false table answer after command done t = by_effect may s command (run.no why.BadMapping s) answer after t kept
 
   affect_marks :
       (command : Command) (answer : Answer) (after : State F) → Affects s command answer after → AnswerMarks may answer s command [] after
   unfolding effect
   affect_marks (run.GuestRead a n) answer after t =
       by_effect may s (run.GuestRead a n) (run.guest_read s a n) answer after t
-      (whichever may s (run.GuestRead a n) (reach (physical s.memory) Read a n) _ _ preserved preserved)
+      (whichever may s (run.GuestRead a n) (reach (physical s.memory) Read a n) _ _ kept kept)
   affect_marks (run.GuestWrite a bs) answer after t =
       by_effect may s (run.GuestWrite a bs) (run.guest_write s a bs) answer after t
-      (whichever may s (run.GuestWrite a bs) (reach (physical s.memory) Write a (length bs)) _ _ (write_marks s.memory a bs) preserved)
+      (whichever may s (run.GuestWrite a bs) (reach (physical s.memory) Write a (length bs)) _ _ (write_marks s.memory a bs) kept)
   affect_marks (run.NewBlock n) answer after t =
       by_effect may s (run.NewBlock n) (run.make_block s n) answer after t
-      (whichever may s (run.NewBlock n) (n == 0) _ _ preserved
+      (whichever may s (run.NewBlock n) (n == 0) _ _ kept
       (record { blocks = λ block page. grown_marks s.memory.host.blocks n block page; io_sets = λ set page. refl }))
   affect_marks (run.InsertRegion base block) answer after t =
       by_effect may s (run.InsertRegion base block) (insert_block s base block (slice_get s.memory.host.blocks block)) answer after t
       (block_marks base block (slice_get s.memory.host.blocks block))
   affect_marks (run.RemoveRegion base size) answer after t =
       by_effect may s (run.RemoveRegion base size) (run.remove_region s base size) answer after t
-      (whichever may s (run.RemoveRegion base size) (list_any (is_region base size) s.memory.layout) _ _ preserved preserved)
+      (whichever may s (run.RemoveRegion base size) (list_any (is_region base size) s.memory.layout) _ _ kept kept)
   affect_marks (run.SetLayout layout) answer after t =
       let c = run.SetLayout layout in
       by_effect may s c (run.set_layout s layout) answer after t
-      (whichever may s c (not (list_all (is_known s.memory.host) layout)) _ _ preserved
-      (whichever may s c (not (list_all fits layout)) _ _ preserved (whichever may s c (some_overlap layout) _ _ preserved preserved)))
+      (whichever may s c (not (list_all (is_known s.memory.host) layout)) _ _ kept
+      (whichever may s c (not (list_all fits layout)) _ _ kept (whichever may s c (some_overlap layout) _ _ kept kept)))
   affect_marks run.UnmapAll answer after t = table_marks true nothing_mapped answer after run.UnmapAll (λ end h. h) t
-  affect_marks (run.SetIommu on) answer after t = by_effect may s (run.SetIommu on) (run.set_iommu s on) answer after t preserved
+  affect_marks (run.SetIommu on) answer after t = by_effect may s (run.SetIommu on) (run.set_iommu s on) answer after t kept
   affect_marks (run.Kick i most) answer after t = absurd t
   affect_marks (run.ResetQueue i size desc avail used) answer after t =
       by_effect may s (run.ResetQueue i size desc avail used) (reset s i (fresh size desc avail used) (slice_get s.queues i)) answer after t
@@ -182,19 +182,19 @@ module _ {F : Type 0} (may : May F) (s : State F) where
   affect_marks run.Harvest answer after t = by_effect may s run.Harvest (run.harvest s) answer after t (clears s.memory.host)
   affect_marks command answer after t = table_marks _ _ answer after command (λ end h. h) t
 
-  effect_marks : (command : Command) (reported : Turns) (answer : Answer) (after : State F) → HasEffect s command reported answer after →
-      AnswerMarks may answer s command reported after
+  effect_marks : (command : Command) (turns : Turns) (answer : Answer) (after : State F) → HasEffect s command turns answer after →
+      AnswerMarks may answer s command turns after
   effect_marks command [] answer after t = affect_marks command answer after t
-  effect_marks command (x ∷ reported) answer after t = absurd t
+  effect_marks command (x ∷ turns) answer after t = absurd t
 
-  does_mark : (command : Command) (reported : Turns) (answer : Answer) (after : State F) → Does may s command reported answer after →
-      AnswerMarks may answer s command reported after
-  does_mark (run.Kick i most) reported (run.Served k) after t = kicks_mark may s i most (slice_get s.queues i) reported k after t
-  does_mark (run.Kick i most) reported _ after t = absurd t
-  does_mark command reported answer after t = effect_marks command reported answer after t
+  does_mark : (command : Command) (turns : Turns) (answer : Answer) (after : State F) → Does may s command turns answer after →
+      AnswerMarks may answer s command turns after
+  does_mark (run.Kick i most) turns (run.Served k) after t = kicks_mark may s i most (slice_get s.queues i) turns k after t
+  does_mark (run.Kick i most) turns _ after t = absurd t
+  does_mark command turns answer after t = effect_marks command turns answer after t
 
 pub commands_mark : {F : Type 0} (may : May F) → CommandsMark may
 commands_mark {F} may s after command [] (run.IsRefused why.OutOfMemory) t =
     subst (λ (k : State F). KeepsMarks s.memory.host k.memory.host) (sym t.1) (keeps s.memory.host)
-commands_mark may s after command (x ∷ reported) (run.IsRefused why.OutOfMemory) t = absurd t
-commands_mark may s after command reported _ t = does_mark may s command reported _ after t
+commands_mark may s after command (x ∷ turns) (run.IsRefused why.OutOfMemory) t = absurd t
+commands_mark may s after command turns _ t = does_mark may s command turns _ after t

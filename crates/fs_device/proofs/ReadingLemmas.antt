@@ -36,10 +36,10 @@ use Rattle.fs_device.specs.declared.reply_front.PreparedReply.{PreparedReply}
 use Rattle.fs_device.specs.declared.reply_front.ReplyFront.TheVariants.{Header}
 use Rattle.fs_device.specs.declared.returned.Returned.{Returned}
 use Rattle.fs_device.specs.DevicePartsView.{DeviceParts}
-use Rattle.fs_device.specs.Returned.{StepReported}
+use Rattle.fs_device.specs.Returned.{StepReturned}
 use Rattle.fs_device.specs.Phases.{HasTaken}
 use Rattle.fs_device.specs.ShortWay.{HoldARead, ReadsInPlace}
-use Rattle.fs_device.proofs.AnsweringLemmas.{request_held, reported_step}
+use Rattle.fs_device.proofs.AnsweringLemmas.{request_held, returned_step}
 use Rattle.fs_device.proofs.StepLemmas.{Fixed, exchanges}
 use Rattle.fs_device.proofs.ServeLemmas.{replied_ok, served_chain}
 
@@ -145,7 +145,7 @@ answers_chain may before after m h new q fetched t c a same taken is x =
     }
 
 -- a step that was given back, told by its head, its lengths, its fault and its notice
-pub reported_return :
+pub returned_step_of :
     {F : Type 0} (may : May F) (f : Fixed) (m m' n : Memory) (queues between : List Queue) (i : ℕ) (p q' : Queue) (s s' : ℕ × F) (t : Taken)
     (has : HasTaken m f.limit queues i t) (x : Exchange) (notice : Bool)
     (d : DeviceParts F) (page : ℕ) (r : Returned) →
@@ -154,11 +154,11 @@ pub reported_return :
     (IsTaken m p has.fetched t → notice ≡ wants_notice m' p) → q' ≡ advanced p →
     record { queues = queues; options = s.0; files = s.1; limit = f.limit; page_size = f.page_size } ≡ d → n ≡ m' → page ≡ f.page_size →
     r.head ≡ x.head → r.request_len ≡ length x.request → r.reply_len ≡ length x.reply → r.fault ≡ x.fault → r.notify ≡ notice →
-    StepReported may (state_of m d) i (Ok (Some r))
+    StepReturned may (state_of m d) i (Ok (Some r))
     (state_of n (record { queues = set between i q'; options = s'.0; files = s'.1; limit = f.limit; page_size = page }))
-reported_return may f m m' n queues between i p q' s s' t has x notice d page r preserved at served stored reported after is over same head
+returned_step_of may f m m' n queues between i p q' s s' t has x notice d page r kept at served stored notice_is after is over same head
     request reply
     fault noticed =
-    rw (← is, over, same) (reported_step may _ i x notice _ r
-    (exchanges may f m m' queues between i p q' s s' t has x notice preserved at served stored reported after) head request reply fault
+    rw (← is, over, same) (returned_step may _ i x notice _ r
+    (exchanges may f m m' queues between i p q' s s' t has x notice kept at served stored notice_is after) head request reply fault
     noticed)

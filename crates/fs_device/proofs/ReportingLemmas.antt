@@ -23,11 +23,11 @@ use Rattle.plain_machine.specs.Run as run
 use Rattle.plain_machine.specs.Run.{Turn, Turns, Command, Answer, Effect, KickEnds, KickRun, Kicks, KickAnswer, Affects, ChangesTable}
 use Rattle.plain_machine.specs.Run.{HasEffect, Does, IsDecided, Performs}
 use Rattle.plain_machine.specs.Run.{RunReported, effect, insert, insert_block, is_known, some_overlap, reset}
-use Rattle.fs_device.specs.Reporting.{calls_of, calls_reported, IsMeant, IsServedBy, IsServed}
+use Rattle.fs_device.specs.Reporting.{calls_of, calls_of_all, IsMeant, IsServedBy, IsServed}
 
 -- exchanges that report their calls: these lead from one state of the file system to another
 abbrev Reports : {F : Type 0} → May F → F → Turns → F → Type 0
-Reports may before reported after = FileRun may before (calls_of reported) after × AllByRecursion IsServed reported
+Reports may before turns after = FileRun may before (calls_of turns) after × AllByRecursion IsServed turns
 
 files_joined : {F : Type 0} (may : May F) (a b c : F) (xs ys : Calls) → FileRun may a xs b → FileRun may b ys c → FileRun may a (xs ++ ys) c
 files_joined may a b c [] ys front back = subst (λ x. FileRun may x ys c) front back
@@ -58,12 +58,12 @@ exchange_reports may s i q (Offers head (IsRequest request room)) calls x notice
     ≡ map (λ (step : FileCall × FileAnswer). step.0) calls =
     ap (λ (bytes : List ℕ). (served set (meaning s.options bytes (length room)) answers).calls) same
     ∙ ap (λ (g : ServedMessage). g.calls) (sym r.serves.gives) ∙ r.serves.asks in
-    let reported : x ≡ served_exchange head request (served set (meaning s.options request (length room)) answers) =
+    let turns : x ≡ served_exchange head request (served set (meaning s.options request (length room)) answers) =
     r.returns.exchange ∙ ap (λ (g : ServedMessage). served_exchange head request g) r.serves.gives in
     let is : x ≡ served_exchange x.head x.request (served set (meaning s.options x.request (length room)) answers) =
     subst (λ (n : ℕ). x ≡ served_exchange n x.request (served set (meaning s.options x.request (length room)) answers)) (sym same_head)
     (subst (λ (bytes : List ℕ). x ≡ served_exchange head bytes (served set (meaning s.options bytes (length room)) answers))
-    (sym same) reported) in
+    (sym same) turns) in
     (r.serves.run, by_fault r.given.fault (turn x notice calls) (ap (λ (e : Exchange). e.fault) r.returns.exchange) (set, own, is))
 exchange_reports may s i q _ calls x notice after r = absurd r
 
@@ -74,27 +74,27 @@ step_reports may s i None calls x notice after t = absurd (cc)
 step_reports may s i (Some q) calls x notice after t = exchange_reports may s i q _ calls x notice after t
 
 -- what an idle step, a refusal and the end of a kick don't change: the memory and the files
-abbrev pub preserved_of : {F : Type 0} → State F → Memory × F
-preserved_of s = (s.memory, s.files)
+abbrev pub kept_of : {F : Type 0} → State F → Memory × F
+kept_of s = (s.memory, s.files)
 
 idle_leaves : {F : Type 0} (may : May F) (s : State F) (i : ℕ) (o : Option Queue) (calls : Calls) (after : State F) →
-    StepOf may s i o calls Idle after → preserved_of after ≡ preserved_of s
-idle_leaves may s i None calls after t = ap preserved_of t.1.same
-idle_leaves may s i (Some q) calls after t = ap preserved_of t.1.same
+    StepOf may s i o calls Idle after → kept_of after ≡ kept_of s
+idle_leaves may s i None calls after t = ap kept_of t.1.same
+idle_leaves may s i (Some q) calls after t = ap kept_of t.1.same
 
 pub refused_leaves :
     {F : Type 0} (may : May F) (s : State F) (i : ℕ) (o : Option Queue) (calls : Calls) (e : DeviceError) (after : State F) →
-    StepOf may s i o calls (Refused e) after → preserved_of after ≡ preserved_of s
-refused_leaves may s i None calls e after t = ap preserved_of t.1.same
+    StepOf may s i o calls (Refused e) after → kept_of after ≡ kept_of s
+refused_leaves may s i None calls e after t = ap kept_of t.1.same
 refused_leaves may s i (Some q) calls device.NoSuchQueue after t = absurd t
-refused_leaves may s i (Some q) calls (device.Queue stop.OutOfMemory) after t = ap preserved_of t.1.same
-refused_leaves may s i (Some q) calls (device.Queue _) after t = ap preserved_of t.2
+refused_leaves may s i (Some q) calls (device.Queue stop.OutOfMemory) after t = ap kept_of t.1.same
+refused_leaves may s i (Some q) calls (device.Queue _) after t = ap kept_of t.2
 
 -- ---- kicks
 
 end_leaves : {F : Type 0} (may : May F) (s : State F) (i most : ℕ) (refused : Option DeviceError) (after : State F) →
-    KickEnds may s i most refused after → preserved_of after ≡ preserved_of s
-end_leaves may s i zero None after same = ap preserved_of same
+    KickEnds may s i most refused after → kept_of after ≡ kept_of s
+end_leaves may s i zero None after same = ap kept_of same
 end_leaves may s i zero (Some e) after t = absurd t
 end_leaves may s i (suc most) None after t = idle_leaves may s i (slice_get s.queues i) [] after t
 end_leaves may s i (suc most) (Some e) after t = refused_leaves may s i (slice_get s.queues i) [] e after t
@@ -109,22 +109,22 @@ pub end_keeps : {F : Type 0} (may : May F) (s : State F) (i most : ℕ) (refused
     KickEnds may s i most refused after → after.memory ≡ s.memory
 end_keeps may s i most refused after t = ap (λ k. k.0) (end_leaves may s i most refused after t)
 
-kick_reports : {F : Type 0} (may : May F) (s : State F) (i most : ℕ) (reported : Turns) (refused : Option DeviceError) (after : State F) →
-    KickRun may s i most reported refused after → Reports may s.files reported after.files
+kick_reports : {F : Type 0} (may : May F) (s : State F) (i most : ℕ) (turns : Turns) (refused : Option DeviceError) (after : State F) →
+    KickRun may s i most turns refused after → Reports may s.files turns after.files
 unfolding KickRun
 kick_reports may s i most [] refused after t = (end_stays may s i most refused after t, tt)
-kick_reports may s i zero (x ∷ reported) refused after t = absurd t
-kick_reports may s i (suc most) (x ∷ reported) refused after (mid, step, rest) =
+kick_reports may s i zero (x ∷ turns) refused after t = absurd t
+kick_reports may s i (suc most) (x ∷ turns) refused after (mid, step, rest) =
     let own = step_reports may s i (slice_get s.queues i) x.calls x.exchange x.notice mid step in
-    let others = kick_reports may mid i most reported refused after rest in
-    (files_joined may s.files mid.files after.files x.calls (calls_of reported) own.0 others.0, (own.1, others.1))
+    let others = kick_reports may mid i most turns refused after rest in
+    (files_joined may s.files mid.files after.files x.calls (calls_of turns) own.0 others.0, (own.1, others.1))
 
-kicks_tell : {F : Type 0} (may : May F) (s : State F) (i most : ℕ) (o : Option Queue) (reported : Turns) (k : KickAnswer) (after : State F)
-    → Kicks may s i most o reported k after →
-    Reports may s.files reported after.files
-kicks_tell may s i most None reported k after t =
+kicks_tell : {F : Type 0} (may : May F) (s : State F) (i most : ℕ) (o : Option Queue) (turns : Turns) (k : KickAnswer) (after : State F)
+    → Kicks may s i most o turns k after →
+    Reports may s.files turns after.files
+kicks_tell may s i most None turns k after t =
     subst (λ (l : Turns). Reports may s.files l after.files) (sym t.1) (ap (λ s. s.files) t.0, tt)
-kicks_tell may s i most (Some q) reported k after t = kick_reports may s i most reported k.refused after t.0
+kicks_tell may s i most (Some q) turns k after t = kick_reports may s i most turns k.refused after t.0
 
 -- ---- the other commands ask nothing
 
@@ -182,34 +182,34 @@ affect_stays s run.UnmapAll answer after t = change_stays s true nothing_mapped 
 affect_stays s (run.Kick queue most) answer after t = absurd t
 affect_stays s command answer after t = by_effect s command answer after t
 
-effect_reports : {F : Type 0} (may : May F) (s : State F) (command : Command) (reported : Turns) (answer : Answer) (after : State F) →
-    HasEffect s command reported answer after →
-    Reports may s.files reported after.files
+effect_reports : {F : Type 0} (may : May F) (s : State F) (command : Command) (turns : Turns) (answer : Answer) (after : State F) →
+    HasEffect s command turns answer after →
+    Reports may s.files turns after.files
 effect_reports may s command [] answer after t = (affect_stays s command answer after t, tt)
-effect_reports may s command (x ∷ reported) answer after t = absurd t
+effect_reports may s command (x ∷ turns) answer after t = absurd t
 
 -- ---- runs
 
-does_tell : {F : Type 0} (may : May F) (s : State F) (command : Command) (reported : Turns) (answer : Answer) (after : State F) →
-    Does may s command reported answer after → Reports may s.files reported after.files
-does_tell may s (run.Kick i most) reported (run.Served k) after t = kicks_tell may s i most (slice_get s.queues i) reported k after t
-does_tell may s (run.Kick i most) reported _ after t = absurd t
-does_tell may s command reported answer after t = effect_reports may s command reported answer after t
+does_tell : {F : Type 0} (may : May F) (s : State F) (command : Command) (turns : Turns) (answer : Answer) (after : State F) →
+    Does may s command turns answer after → Reports may s.files turns after.files
+does_tell may s (run.Kick i most) turns (run.Served k) after t = kicks_tell may s i most (slice_get s.queues i) turns k after t
+does_tell may s (run.Kick i most) turns _ after t = absurd t
+does_tell may s command turns answer after t = effect_reports may s command turns answer after t
 
-performs_tell : {F : Type 0} (may : May F) (s : State F) (command : Command) (reported : Turns) (answer : Answer) (after : State F) →
-    Performs may s command reported answer after → Reports may s.files reported after.files
+performs_tell : {F : Type 0} (may : May F) (s : State F) (command : Command) (turns : Turns) (answer : Answer) (after : State F) →
+    Performs may s command turns answer after → Reports may s.files turns after.files
 performs_tell may s command [] (run.IsRefused why.OutOfMemory) after t = (ap (λ s. s.files) t.1, tt)
-performs_tell may s command (x ∷ reported) (run.IsRefused why.OutOfMemory) after t = absurd t
-performs_tell may s command reported _ after t = does_tell may s command reported _ after t
+performs_tell may s command (x ∷ turns) (run.IsRefused why.OutOfMemory) after t = absurd t
+performs_tell may s command turns _ after t = does_tell may s command turns _ after t
 
 -- a run reports its calls
-pub run_reports : {F : Type 0} (may : May F) (s : State F) (events : List (Command × Answer)) (all_reported : List Turns) (after : State F)
-    → RunReported may s events all_reported after →
-    FileRun may s.files (calls_reported all_reported) after.files × AllByRecursion (AllByRecursion IsServed) all_reported
+pub run_reports : {F : Type 0} (may : May F) (s : State F) (events : List (Command × Answer)) (all_turns : List Turns) (after : State F)
+    → RunReported may s events all_turns after →
+    FileRun may s.files (calls_of_all all_turns) after.files × AllByRecursion (AllByRecursion IsServed) all_turns
 unfolding RunReported
 run_reports may s [] [] after t = (ap (λ s. s.files) t, tt)
-run_reports may s (e ∷ es) (reported ∷ all_reported) after (mid, performs, rest) =
-    let own = performs_tell may s e.0 reported e.1 mid performs in
-    let others = run_reports may mid es all_reported after rest in
-    (files_joined may s.files mid.files after.files (calls_of reported) (calls_reported all_reported) own.0 others.0, (own.1, others.1))
+run_reports may s (e ∷ es) (turns ∷ all_turns) after (mid, performs, rest) =
+    let own = performs_tell may s e.0 turns e.1 mid performs in
+    let others = run_reports may mid es all_turns after rest in
+    (files_joined may s.files mid.files after.files (calls_of turns) (calls_of_all all_turns) own.0 others.0, (own.1, others.1))
 run_reports may s _ _ after t = absurd t

@@ -18,15 +18,15 @@ Proceeds {F} may s done mid =
 
 pub run_more : {F X Y : Type 0} (may : May F) (f : X → Command) (g : Y →
     Answer) (s mid next : State F) (xs : List X) (ys : List Y) (x : X) (y : Y) → length ys ≡ length xs →
-    Proceeds may s (zip (map f xs) (map g ys)) mid → (reported : Turns) × Performs may mid (f x) reported (g y) next →
+    Proceeds may s (zip (map f xs) (map g ys)) mid → (turns : Turns) × Performs may mid (f x) turns (g y) next →
     Proceeds may s (zip (map f (xs ++ x ∷ [])) (map g (ys ++ y ∷ []))) next
 unfolding RunReported
-run_more may f g s mid next xs ys x y same proceeds (reported, done) events after (all_reported, run) =
+run_more may f g s mid next xs ys x y same proceeds (turns, done) events after (all_turns, run) =
     let one : zip (map f (xs ++ x ∷ [])) (map g (ys ++ y ∷ [])) ++ events ≡ zip (map f xs) (map g ys) ++ (f x, g y) ∷ events =
     ap (λ (l : List (Command × Answer)). l ++ events) (zip_more f g xs ys x y same)
     ∙ append_assoc (zip (map f xs) (map g ys)) ((f x, g y) ∷ []) events in
     subst (λ (l : List (Command × Answer)). Run may s l after) (sym one)
-    (proceeds ((f x, g y) ∷ events) after (reported ∷ all_reported, (next, done, run)))
+    (proceeds ((f x, g y) ∷ events) after (turns ∷ all_turns, (next, done, run)))
 
 pub run_ends : {F : Type 0} (may : May F) (s mid : State F) (done : List (Command × Answer)) → Proceeds may s done mid → Run may s done mid
 unfolding RunReported

@@ -134,7 +134,7 @@ pub gives_back : {F : Type 0} (f : Fixed) (m m' : Memory) (queues : List Queue) 
     (IsTaken m p has.fetched t → m' ≡ returned m p t.head (room_of has.fetched) reply) →
     (IsTaken m p has.fetched t → notice ≡ wants_notice m' p) → q' ≡ advanced p →
     IsReturned (state f m queues s) i t has reply notice (state f m' (set queues i q') s)
-gives_back f m m' queues i p q' s t has reply notice at stored reported after =
+gives_back f m m' queues i p q' s t has reply notice at stored notice_is after =
     let both : Some has.queue ≡ Some p = sym has.there ∙ at in
     let same : has.queue ≡ p = cc in
     let taken : IsTaken m p has.fetched t = subst (λ (o : Queue). IsTaken m o has.fetched t) same has.taken in record {
@@ -144,7 +144,7 @@ gives_back f m m' queues i p q' s t has reply notice at stored reported after =
           ∙ ap (λ (l : List Queue). state f (returned m has.queue t.head (room_of has.fetched) reply) l s)
           (ap (set queues i) (after ∙ ap advanced (sym same))
           ∙ sym (changed_at-set queues i (λ _. advanced has.queue) (advanced has.queue)));
-      reported = reported taken ∙ ap (wants_notice m') (sym same);
+      reported = notice_is taken ∙ ap (wants_notice m') (sym same);
     }
 
 -- so it is, whatever chain was taken, by what a device is made of
@@ -154,10 +154,10 @@ pub gives_back_parts : {F : Type 0} (f : Fixed) (m m' : Memory) (queues : List Q
     ((fetched : RequestAndRoom) → IsTaken m p fetched t → m' ≡ returned m p t.head (room_of fetched) reply) →
     ((fetched : RequestAndRoom) → IsTaken m p fetched t → notice ≡ wants_notice m' p) → q' ≡ advanced p →
     (has : IsTakenFrom m d.queues i t) → IsReturned (state_of m d) i t has reply notice (state f m' (set queues i q') s)
-gives_back_parts {F} f m m' queues i p q' s t d reply notice is at stored reported after =
+gives_back_parts {F} f m m' queues i p q' s t d reply notice is at stored notice_is after =
     subst (λ (e : DeviceParts F). (has : IsTakenFrom m e.queues i t) →
     IsReturned (state_of m e) i t has reply notice (state f m' (set queues i q') s)) is
-    (λ has. gives_back f m m' queues i p q' s t has reply notice at (stored has.fetched) (reported has.fetched) after)
+    (λ has. gives_back f m m' queues i p q' s t has reply notice at (stored has.fetched) (notice_is has.fetched) after)
 
 is_returned : {F : Type 0} (may : May F) (s after : State F) (i : ℕ) (q : Queue) (head : ℕ) (fetched : RequestAndRoom) (calls : Calls)
     (o : ℕ)
@@ -165,7 +165,7 @@ is_returned : {F : Type 0} (may : May F) (s after : State F) (i : ℕ) (q : Queu
     ServesChain may s.page_size (s.options, s.files) head fetched calls x (o, g) →
     after ≡ after_return s i q head (room_of fetched) x.reply o g → notice ≡ wants_notice after.memory q →
     Exchanges may s i q (Offers head fetched) calls x notice after
-is_returned {F} may s after i q head (CannotFetch why) calls o g x notice served is reported =
+is_returned {F} may s after i q head (CannotFetch why) calls o g x notice served is notice_is =
     let files : after.files ≡ s.files = ap (λ (y : State F). y.files) is ∙ ap (λ (p : ℕ × F). p.1) served.2 in record {
       no_call = served.1;
       files = files;
@@ -176,10 +176,10 @@ is_returned {F} may s after i q head (CannotFetch why) calls o g x notice served
             ∙ ap (λ (p : ℕ × F). after_return s i q head [] x.reply p.0 p.1) served.2
             ∙ ap (λ (y : Exchange). after_return s i q head [] y.reply s.options s.files) served.0
             ∙ ap (λ (files : F). after_return s i q head [] [] s.options files) (sym files);
-        reported = reported;
+        reported = notice_is;
       };
     }
-is_returned {F} may s after i q head (IsRequest request room) calls o g x notice served is reported =
+is_returned {F} may s after i q head (IsRequest request room) calls o g x notice served is notice_is =
     let files : after.files ≡ g = ap (λ (y : State F). y.files) is in
     let given = served.0 in record {
       given = given;
@@ -192,7 +192,7 @@ is_returned {F} may s after i q head (IsRequest request room) calls o g x notice
             ∙ ap (λ (y : Exchange). after_return s i q head room y.reply o g) served.2
             ∙ ap (λ (n : ℕ). after_return s i q head room given.reply n g) served.3
             ∙ ap (λ (files : F). after_return s i q head room given.reply given.options files) (sym files);
-        reported = reported;
+        reported = notice_is;
       };
     }
 
@@ -217,13 +217,13 @@ pub exchanges :
     (IsTaken m p has.fetched t → m' ≡ returned m p t.head (room_of has.fetched) x.reply) →
     (IsTaken m p has.fetched t → notice ≡ wants_notice m' p) → q' ≡ advanced p →
     (calls : Calls) × Step may (state f m queues s) i calls (Exchanged x notice) (state f m' (set between i q') s')
-exchanges {F} may f m m' queues between i p q' s s' t has x notice preserved at served stored reported after =
-    let found : slice_get queues i ≡ Some p = ap (λ (l : List Queue). slice_get l i) (sym preserved) ∙ at in
-    let back = gives_back f m m' queues i p q' s' t (taken_from has) x.reply notice found stored reported after in
+exchanges {F} may f m m' queues between i p q' s s' t has x notice kept at served stored notice_is after =
+    let found : slice_get queues i ≡ Some p = ap (λ (l : List Queue). slice_get l i) (sym kept) ∙ at in
+    let back = gives_back f m m' queues i p q' s' t (taken_from has) x.reply notice found stored notice_is after in
     let done = step_by_phases may (state f m queues s) (state f m' (set queues i q') s') i t has s'.0 s'.1 x notice served back in (
       done.0,
       subst (λ (l : List Queue). Step may (state f m queues s) i done.0 (Exchanged x notice) (state f m' (set l i q') s'))
-          (sym preserved) done.1,
+          (sym kept) done.1,
     )
 
 -- a device that takes a chain, answers it and gives it back does a step

@@ -112,24 +112,24 @@ accepted n t = if length t.calls == 0 then 0 else forgets_meant n (meaning 0 t.e
 
 -- the sum of an amount over all exchanges of a run
 abbrev pub over : (Turn → ℕ) → List Turns → ℕ
-over amount all_reported = sum_by (λ reported. sum_by amount reported) all_reported
+over amount all_turns = sum_by (λ turns. sum_by amount turns) all_turns
 
 -- the accounts of a node balance: answered less sent is written less accepted
 abbrev pub IsBalanced : (node : ℕ) → List Turns → Type 0
-IsBalanced n all_reported =
-    over (answered n) all_reported + over (accepted n) all_reported ≡ over (written n) all_reported + over
-    (sent n) all_reported
+IsBalanced n all_turns =
+    over (answered n) all_turns + over (accepted n) all_turns ≡ over (written n) all_turns + over
+    (sent n) all_turns
 
 -- theorem: each run from any state balances for each node but 0, which means no node
 abbrev pub Balances : {F : Type 0} → May F → Type 0
 Balances {F} may =
-    (s after : State F) (events : List (Command × Answer)) (all_reported : List Turns) (n : ℕ) →
+    (s after : State F) (events : List (Command × Answer)) (all_turns : List Turns) (n : ℕ) →
     n ≢ 0 →
-    RunReported may s events all_reported after →
-    IsBalanced n all_reported
+    RunReported may s events all_turns after →
+    IsBalanced n all_turns
 
 -- a run that balances for each node but 0
 abbrev pub BalancedRun : {F : Type 0} → May F → State F → List (Command × Answer) → State F → Type 0
 BalancedRun may s events after =
-    (all_reported : List Turns) × RunReported may s events all_reported after
-    × ((n : ℕ) → n ≢ 0 → IsBalanced n all_reported)
+    (all_turns : List Turns) × RunReported may s events all_turns after
+    × ((n : ℕ) → n ≢ 0 → IsBalanced n all_turns)

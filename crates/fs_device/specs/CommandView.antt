@@ -56,7 +56,7 @@ answer_of (said.TheVariants.Refused why) = IsRefused why
 abbrev pub KickLists : {F : Type 0} → May F → State F → (queue most : ℕ) → List (Exchange × Bool) →
     Option DeviceError → State F → Type 0
 KickLists may s i most listed refused after =
-    (reported : Turns) × KickRun may s i most reported refused after × (listed ≡ map shown reported)
+    (turns : Turns) × KickRun may s i most turns refused after × (listed ≡ map shown turns)
 
 -- the result of serving a queue's chains: `NoSuchQueue` if it is missing; `OutOfMemory` if the list of
 -- exchanges can't be allocated, and then nothing is done; else a kick

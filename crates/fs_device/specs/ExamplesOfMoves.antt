@@ -99,7 +99,7 @@ is_moved = record {
   };
   over = refl;
   same = refl;
-  carries_on = λ later all_reported end ran. (
+  carries_on = λ later all_turns end ran. (
     of_eight old_bytes false,
     refl,
     (of_eight new_bytes true, refl, (of_eight new_bytes false, refl, ran)),

@@ -48,10 +48,10 @@ SameEvents (event ∷ events) (other ∷ others) =
 -- differ only in marks
 abbrev pub MarksDoNotMatter : {F : Type 0} → May F → Type 0
 MarksDoNotMatter {F} may =
-    (a b after : State F) (events : List (Command × Answer)) (all_reported : List Turns) →
+    (a b after : State F) (events : List (Command × Answer)) (all_turns : List Turns) →
     SameButMarks a b →
-    RunReported may a events all_reported after →
+    RunReported may a events all_turns after →
     (others : List (Command × Answer)) × (end : State F)
     × SameEvents events others
-    × RunReported may b others all_reported end
+    × RunReported may b others all_turns end
     × SameButMarks after end

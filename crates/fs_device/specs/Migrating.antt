@@ -26,9 +26,9 @@ until_harvest events last = events ++ (Harvest, Pages last) ∷ []
 abbrev pub CouldRunHere : {F : Type 0} → May F → State F → List (Command × Answer) → (before : List Turns) →
     (there : State F) → Type 0
 CouldRunHere {F} may s events before there =
-    (later : List (Command × Answer)) (all_reported : List Turns) (end : State F) →
-    RunReported may there later all_reported end →
-    RunReported may s (events ++ later) (before ++ all_reported) end
+    (later : List (Command × Answer)) (all_turns : List Turns) (end : State F) →
+    RunReported may there later all_turns end →
+    RunReported may s (events ++ later) (before ++ all_turns) end
 
 -- a machine is moved by a run here from an image to a last harvest. The machine there is the one here
 -- over the copy, with all harvested pages applied in order; it equals the one here, marks and all; and

@@ -12,11 +12,11 @@ use Rattle.plain_machine.specs.Run.{Turn, Turns, Command, Answer, RunReported}
 
 -- the calls of a kick, in their order
 abbrev pub calls_of : Turns → Calls
-calls_of reported = flat_map (λ t. t.calls) reported
+calls_of turns = flat_map (λ t. t.calls) turns
 
 -- the calls of a run, in their order
-abbrev pub calls_reported : List Turns → Calls
-calls_reported all_reported = flat_map calls_of all_reported
+abbrev pub calls_of_all : List Turns → Calls
+calls_of_all all_turns = flat_map calls_of all_turns
 
 -- in some setting the request means these calls, each determined by the answers before it, and this
 -- exchange
@@ -39,9 +39,9 @@ IsServed t = IsServedBy t.exchange.fault t
 
 -- theorem: all calls of a run are a run of the file system from its first state to its last, and each
 -- exchange follows from its request's meaning in some setting
-abbrev pub CallsAreReported : {F : Type 0} → May F → Type 0
-CallsAreReported {F} may =
-    (s after : State F) (events : List (Command × Answer)) (all_reported : List Turns) →
-    RunReported may s events all_reported after →
-    FileRun may s.files (calls_reported all_reported) after.files
-    × AllByRecursion (AllByRecursion IsServed) all_reported
+abbrev pub CallsAreOfRun : {F : Type 0} → May F → Type 0
+CallsAreOfRun {F} may =
+    (s after : State F) (events : List (Command × Answer)) (all_turns : List Turns) →
+    RunReported may s events all_turns after →
+    FileRun may s.files (calls_of_all all_turns) after.files
+    × AllByRecursion (AllByRecursion IsServed) all_turns

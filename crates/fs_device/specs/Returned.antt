@@ -7,8 +7,8 @@ use Rattle.plain_machine.specs.Step.{State, Exchange, StepEnd, Idle, Refused, Ex
 
 -- an exchange by its head, the lengths of its request and reply in bytes, its fault, and whether the
 -- driver is notified (VIRTIO 1.2, 2.7.7 and 2.7.8)
-abbrev pub reported_exchange : Exchange → (notice : Bool) → Returned
-reported_exchange x notice =
+abbrev pub returned_exchange : Exchange → (notice : Bool) → Returned
+returned_exchange x notice =
     record {
       head = x.head;
       request_len = length x.request;
@@ -18,14 +18,14 @@ reported_exchange x notice =
     }
 
 -- the end of a step: no chain is available, a chain was exchanged, or it is refused
-abbrev pub reported : StepEnd → Result (Option Returned) DeviceError
-reported Idle = Ok None
-reported (Exchanged x notice) = Ok (Some (reported_exchange x notice))
-reported (Refused e) = Err e
+abbrev pub returned : StepEnd → Result (Option Returned) DeviceError
+returned Idle = Ok None
+returned (Exchanged x notice) = Ok (Some (returned_exchange x notice))
+returned (Refused e) = Err e
 
 -- a step on queue i may have this result, with some calls, and leave this state
-abbrev pub StepReported :
+abbrev pub StepReturned :
     {F : Type 0} → May F → State F → ℕ → Result (Option Returned) DeviceError → State F → Type 0
-StepReported may before i result after =
+StepReturned may before i result after =
     (calls : Calls) × (outcome : StepEnd) × Step may before i calls outcome after
-    × (result ≡ reported outcome)
+    × (result ≡ returned outcome)

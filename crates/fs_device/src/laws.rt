@@ -8,8 +8,8 @@ ghost use Rattle.plain_machine.specs.MarkedPages.{CommandsMark, StepsMark, Write
 ghost use Rattle.fs_device.specs.Moving.{CanMoveAgain, HasItsMarks, ImageCatchesUp, MovedIsLast};
 ghost use Rattle.fs_device.specs.Moving.{PagesHavePlaces, StaleIsMarked};
 ghost use Rattle.plain_machine.specs.StepBy.{StepByIsStep, StepIsStepBy, StoresOnlyThere};
-ghost use Rattle.fs_device.specs.Reporting.{CallsAreReported};
-ghost use Rattle.plain_machine.specs.UsedLength.{LengthsAreReported};
+ghost use Rattle.fs_device.specs.Reporting.{CallsAreOfRun};
+ghost use Rattle.plain_machine.specs.UsedLength.{LengthsAreOfReplies};
 
 use fuse_fs::FileSystem;
 use vm_memory_core::{HostMemory, PageBitmap};
@@ -28,10 +28,10 @@ pub fn law_books<F: FileSystem>()
     ensures { Balances F.may }
 {}
 
-/// A step is determined by its loads, the answers to its calls and its stores, and the guest may write
-/// at any time. It stores only to the walked reply buffer, the used element and the
-/// used index (VIRTIO 1.2, 2.7.8). A step with loads of one memory is a step of the plain machine over
-/// that memory. Each step of the plain machine is a step by loads and stores.
+/// A step is determined by its loads, the answers to its calls and its stores, and the guest may write at any
+/// time. It stores only to the walked reply buffer, the used element and the used index (VIRTIO 1.2, 2.7.8).
+/// A step with loads of one memory is a step of the plain machine over that memory. Each step of the plain
+/// machine is a step by loads and stores.
 pub fn law_steps_by_loads<F: FileSystem>()
     ensures is_step { StepByIsStep F.may }
     ensures has { StepIsStepBy F.may }
@@ -42,7 +42,7 @@ pub fn law_steps_by_loads<F: FileSystem>()
 /// last. Each exchange has the calls and the reply that its request means in some setting (options,
 /// page size, reply buffer), as `RunReported` says.
 pub fn law_calls<F: FileSystem>()
-    ensures { CallsAreReported F.may }
+    ensures { CallsAreOfRun F.may }
 {}
 
 /// Marks change nothing else. States that differ only in marks allow the same runs, with the same
@@ -56,7 +56,7 @@ pub fn law_marks<F: FileSystem>()
 /// (linux/fuse.h, `fuse_out_header.len`) and the number of reply bytes written. If it is 0, only the
 /// used element and the used index are written.
 pub fn law_used_length<F: FileSystem>()
-    ensures { LengthsAreReported F.may }
+    ensures { LengthsAreOfReplies F.may }
 {}
 
 /// The pages, of 4096 bytes, that a write marks, and no others. With the IOMMU off, it marks the page

@@ -25,7 +25,7 @@ pub struct Returned {
 }
 
 ghost use Rattle.fs_device.specs.DeviceView.{state_of};
-ghost use Rattle.fs_device.specs.Returned.{StepReported};
+ghost use Rattle.fs_device.specs.Returned.{StepReturned};
 
 impl<F: FileSystem> Device<F> {
     /// Serves the next chain of a queue, by its number from 0, as `process_one` does, but returns the
@@ -44,7 +44,7 @@ impl<F: FileSystem> Device<F> {
         queue: usize,
     ) -> Result<Option<Returned>, DeviceError>
         requires { M.IsHeld mem.now (H.host host.old) }
-        ensures step { StepReported F.may (state_of (M.memory mem.now (H.host host.old)) self.old) queue
+        ensures step { StepReturned F.may (state_of (M.memory mem.now (H.host host.old)) self.old) queue
             result
             (state_of (M.memory mem.now (H.host host.new)) self.new) }
         ensures shape { shape (H.host host.new) ≡ shape (H.host host.old) }

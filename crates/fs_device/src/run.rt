@@ -82,8 +82,8 @@ impl<F: FileSystem, I: Iommu + Drop> Machine<F, I> {
     }
 
     fn kick(&mut self, alloc: Global, queue: usize, most: u16) -> Answer
-        ensures { (reported : Turns)
-            × Performs F.may (machine_of self.old) (Kick queue most) reported (answer_of result)
+        ensures { (turns : Turns)
+            × Performs F.may (machine_of self.old) (Kick queue most) turns (answer_of result)
             (machine_of self.new) }
     {
         match self
@@ -112,8 +112,8 @@ impl<F: FileSystem, I: Iommu + Drop> Machine<F, I> {
 
     // Runs one command.
     fn perform(&mut self, alloc: Global, command: Command) -> Answer
-        ensures { (reported : Turns)
-            × Performs F.may (machine_of self.old) (command_of command) reported (answer_of result)
+        ensures { (turns : Turns)
+            × Performs F.may (machine_of self.old) (command_of command) turns (answer_of result)
             (machine_of self.new) }
     {
         match command {

@@ -6,7 +6,7 @@ use Rattle.live_machine.specs.Live.{InFlightChain}
 use Rattle.live_machine.proofs.Alone.{all_both}
 use Rattle.live_machine.proofs.Queues.{apart_of, same_some, there_other, there_same}
 use Rattle.fs_chain.specs.Together.{HasNone, IsNot, Owned}
-use Rattle.fs_driven.specs.Desks.{In, lost, own}
+use Rattle.fs_driven.specs.Drivers.{In, lost, own}
 
 pub by_number : (j k : ℕ) → (j ≡ k) ⊎ (j ≡ k → ⊥)
 by_number j k = by_test j k (j == k) refl

@@ -4,7 +4,7 @@ use Rattle.std.proofs.Common.{subst, sym, ap, ◌∙◌, slice_get}
 use Rattle.std.proofs.lemmas.Bool.{ltb-false}
 use Rattle.fs_regions.specs.Places.{Mapped, places_in}
 use Rattle.live_machine.proofs.Queues.{none_some, same_some}
-use Rattle.fs_chain.specs.Holds.{Machine}
+use Rattle.fs_chain.specs.Holds.{RunState}
 use Rattle.fs_chain.specs.Orders.{memory_error}
 use Rattle.fs_chain.specs.declared.chain_handle.ChainHandle.{ChainHandle}
 use Rattle.fs_chain.specs.declared.error.ChainError.{ChainError}
@@ -12,9 +12,9 @@ use Rattle.fs_chain.specs.declared.error.ChainError.TheVariants.{BadArgument}
 use Rattle.fs_chain.specs.declared.queue.QueueState.{QueueState}
 use Rattle.fs_chain.specs.declared.state.ChainState as state
 use Rattle.fs_chain.specs.declared.state.ChainState.TheVariants as at
-use Rattle.fs_driven.specs.Begins.{IsNew, RunsFromNew}
-use Rattle.fs_driven.specs.Desks.{BeginsDriven, no_pop}
-use Rattle.fs_driven.specs.Reported.{Called, Drives}
+use Rattle.fs_driven.specs.Begins.{IsFreeOver, RunsFromNew}
+use Rattle.fs_driven.specs.Drivers.{BeginsDriven, no_pop}
+use Rattle.fs_driven.specs.Events.{Called, Drives}
 use Rattle.fs_driven.proofs.Calls.{no_error}
 use Rattle.fs_driven.proofs.Handles.{not_free}
 
@@ -36,7 +36,7 @@ pub is_new : (new w : ChainHandle) (regions : Mapped) (limit : ℕ)
     → new.state ≡ at.Free
     → memory_error new.state limit ≡ None
     → w.regions ≡ regions → w.limit ≡ limit → w.state ≡ new.state
-    → IsNew regions limit w
+    → IsFreeOver regions limit w
 is_new new w regions limit free ok same_regions same_limit same_state = (
   same_state ∙ free,
   same_regions,
@@ -45,17 +45,17 @@ is_new new w regions limit free ok same_regions same_limit same_state = (
 )
 
 -- a new handle is one over the memory of the run
-abbrev IsOver : Machine → ChainHandle → Type 0
-IsOver s w = (w.state ≡ at.Free) × (s.places ≡ places_in w.regions) × (s.limit ≡ w.limit)
+abbrev IsFreeIn : RunState → ChainHandle → Type 0
+IsFreeIn s w = (w.state ≡ at.Free) × (s.places ≡ places_in w.regions) × (s.limit ≡ w.limit)
 
-is_over : (s : Machine) (w : ChainHandle) (regions : Mapped) (limit : ℕ) → IsNew regions limit w
-    → s.limit ≡ limit → s.places ≡ places_in regions → IsOver s w
+is_over : (s : RunState) (w : ChainHandle) (regions : Mapped) (limit : ℕ) → IsFreeOver regions limit w
+    → s.limit ≡ limit → s.places ≡ places_in regions → IsFreeIn s w
 is_over s w regions limit new same places =
     (new.0, places ∙ ap places_in (sym new.1), same ∙ sym new.2)
 
 pub runs_from_new : (on : List ℕ) (page_size limit : ℕ) (first second : Mapped) (one other : ChainHandle)
     (qs qs' : List QueueState) (ws : List ChainHandle) (calls : List Called)
-    → BeginsDriven → IsNew first limit one → IsNew second limit other
+    → BeginsDriven → IsFreeOver first limit one → IsFreeOver second limit other
     → Drives on page_size (one ∷ other ∷ []) ws qs qs' calls
     → RunsFromNew on page_size limit first second qs qs' ws calls
 unfolding RunsFromNew Drives
@@ -70,10 +70,10 @@ runs_from_new on page_size limit first second one other qs qs' ws calls begins n
           (subst (λ (n : ℕ). n ≤ 2 ^ 31) (sym same) new_one.3) (λ k w there. each k w there)),
     )
   where
-    each : (k : ℕ) (w : ChainHandle) → slice_get (one ∷ other ∷ []) k ≡ Some w → IsOver s w
+    each : (k : ℕ) (w : ChainHandle) → slice_get (one ∷ other ∷ []) k ≡ Some w → IsFreeIn s w
     each zero w there =
-        subst (λ (x : ChainHandle). IsOver s x) (same_some one w there) (is_over s one first limit new_one same places)
+        subst (λ (x : ChainHandle). IsFreeIn s x) (same_some one w there) (is_over s one first limit new_one same places)
     each (suc zero) w there =
-        subst (λ (x : ChainHandle). IsOver s x) (same_some other w there)
+        subst (λ (x : ChainHandle). IsFreeIn s x) (same_some other w there)
         (is_over s other second limit new_other same both)
     each (suc (suc k)) w there = absurd (none_some w there)

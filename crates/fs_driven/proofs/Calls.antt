@@ -2,7 +2,7 @@
 use Rattle.std.proofs.Common.{◌≡◌, ℕ, Bool, true, false, List, [], ◌∷◌, ◌++◌, length, Option, Some, None, slice_get, refl, subst, sym, ap}
 use Rattle.std.proofs.Common.{inl, ◌∙◌, zero, suc}
 use Rattle.vm_memory.specs.Memory.{Memory}
-use Rattle.fs_chain.specs.Holds.{IsPopOf, HoldsChain, IsRepliedWith, HoldsPop, IsHeldIn, IsOutAs, IsQueue, Machine, Pop, live_of}
+use Rattle.fs_chain.specs.Holds.{IsPopOf, HoldsInFlight, IsRepliedWith, HoldsPop, IsHeldIn, IsOutAs, IsRunQueue, RunState, Pop, live_of}
 use Rattle.fs_chain.specs.Holds.{queue_with, IsUnanswered}
 use Rattle.fs_chain.specs.Queues.{SameEventIndex}
 use Rattle.fs_chain.proofs.HoldsQueues.{same_index}
@@ -19,29 +19,29 @@ use Rattle.live_machine.specs.Live.{Abandoned, Asked, Fetched, InFlightChain, Lo
 use Rattle.live_machine.specs.Live.{asked_chain, pop_refusal, room_of, serving}
 use Rattle.fuse_values.specs.declared.call.FileCall as made_call
 use Rattle.fs_chain.specs.Decoding.{KeepsCall, KeepsReply}
-use Rattle.fs_driven.specs.Desks.{Begun, Desk, FitsRun, IsReady, MayPop, own, with_pop}
-use Rattle.fs_driven.specs.Reported.{DrivesOne, Reports, Unseen, exactly, transition}
-use Rattle.fs_driven.specs.Preserved.{IsSameHeld, KeepsMemory}
+use Rattle.fs_driven.specs.Drivers.{PushUnderWay, Driver, FitsRun, CanBePushed, MayPop, own, with_pop}
+use Rattle.fs_driven.specs.Events.{DrivesOne, EventsOf, Unseen, exactly, transition}
+use Rattle.fs_driven.specs.Kept.{IsSameHeld, KeepsMemory}
 use Rattle.fs_chain.specs.Loads.{IsSame}
 use Rattle.fs_chain.specs.Orders.{is_out}
 use Rattle.fs_chain.specs.Rings.{ring_of}
 use Rattle.fs_chain.specs.Together.{Owned, with_handle}
 use Rattle.fs_chain.specs.declared.chain_handle.ChainHandle.{ChainHandle}
-use Rattle.fs_driven.specs.declared.commands.Command.{Command}
-use Rattle.fs_driven.specs.declared.commands.Returned.{Returned}
+use Rattle.fs_driven.specs.declared.commands.DriverCall.{DriverCall}
+use Rattle.fs_driven.specs.declared.commands.Results.{Results}
 use Rattle.fs_chain.specs.declared.queue.QueueState.{QueueState}
 use Rattle.fs_chain.specs.declared.state.ChainState as state
 use Rattle.fs_chain.specs.declared.state.ChainState.TheVariants as at
 use Rattle.fs_chain.specs.declared.state.InFlight.{InFlight}
 use Rattle.fs_driven.proofs.Counts.{same_count}
-use Rattle.fs_driven.proofs.Spots.{DrivenAt, DrivesAt, LeadsAt, Spot, desk_after, desk_before, drives_one, with_pop_same}
-use Rattle.fs_driven.proofs.Handles.{Moves, SamePlaces, has_own, idles, keeps, not_free, others_same}
+use Rattle.fs_driven.proofs.QueuePlaces.{DrivenAt, DrivesAt, HasRunAt, QueuePlace, driver_after, driver_before, drives_one, with_pop_same}
+use Rattle.fs_driven.proofs.Handles.{MovesRun, SamePlaces, has_own, idles, keeps, not_free, others_same}
 
 -- ---- a call that is refused
 
 holds_same : (page_size : ℕ) (c : InFlightChain) (old new : ChainHandle) → IsSameHeld old new →
-    HoldsChain page_size c old →
-    HoldsChain page_size c new
+    HoldsInFlight page_size c old →
+    HoldsInFlight page_size c new
 holds_same page_size c old new same held =
     subst (λ (st : state.ChainState). IsHeldIn page_size c c.phase st new.session) (sym same.0)
     (subst (λ (x : Session). IsHeldIn page_size c c.phase old.state x) (sym same.1) held)
@@ -73,7 +73,7 @@ may_same : (limit : ℕ) (q : QueueState) (p : Pop) (old new : ChainHandle) (st 
     IsSameHeld old new →
     MayPop limit q p old st
     → MayPop limit q p new st
-may_same limit q p old new (at.Walking course pop_id walk) same may =
+may_same limit q p old new (at.Popping course pop_id walk) same may =
     (pop_same limit p old new same may.0, may.1)
 may_same limit q p old new _ same may = tt
 
@@ -88,7 +88,7 @@ fits_same places limit q p old new same fits = (
 
 may_out : (limit : ℕ) (q : QueueState) (p : Pop) (w : ChainHandle) (st : state.ChainState) → is_out st ≡ true →
     MayPop limit q p w st
-may_out limit q p w (at.Walking course pop_id walk) out = absurd (not_free false out refl)
+may_out limit q p w (at.Popping course pop_id walk) out = absurd (not_free false out refl)
 may_out limit q p w _ out = tt
 
 pub fits_out : (places : Memory) (limit : ℕ) (q : QueueState) (p r : Pop) (old new : ChainHandle) →
@@ -98,10 +98,10 @@ fits_out places limit q p r old new same out fits =
     (fits.0 ∙ ap places_in (sym same.0), fits.1 ∙ sym same.1, may_out limit q r new new.state out)
 
 -- nothing happens, but the queue may be in a push
-pub stays_put : (s : Machine) (i : Spot) (page_size k : ℕ) (q q' : QueueState) (p : Pop) (push : Option Begun)
-    (new : ChainHandle) → IsQueue s i.number q' → SameEventIndex q' q → SamePlaces q q' →
+pub stays_put : (s : RunState) (i : QueuePlace) (page_size k : ℕ) (q q' : QueueState) (p : Pop) (push : Option PushUnderWay)
+    (new : ChainHandle) → IsRunQueue s i.number q' → SameEventIndex q' q → SamePlaces q q' →
     q'.pushing ≡ q.pushing → (q.pushing ≡ false → push ≡ None)
-    → FitsRun s.places s.limit q p new → Moves s s i page_size k q q' p push push new
+    → FitsRun s.places s.limit q p new → MovesRun s s i page_size k q q' p push push new
 stays_put s i page_size k q q' p push new there event same pushing still fits =
     record {
       page = refl;
@@ -116,30 +116,30 @@ stays_put s i page_size k q q' p push new there event same pushing still fits =
     }
 
 -- T tells of no events, whatever the handles hold, as long as handle k has this pop
-abbrev pub ReportsNone : Machine → Spot → QueueState → List ChainHandle → Option Begun → (k : ℕ) → Pop →
-    (T : List LiveEvent → Desk → Type 0) → Type 0
+abbrev pub ReportsNone : RunState → QueuePlace → QueueState → List ChainHandle → Option PushUnderWay → (k : ℕ) → Pop →
+    (T : List LiveEvent → Driver → Type 0) → Type 0
 ReportsNone s i q ws push k p T =
-    (os : List Owned) (pops : ℕ → Pop) → pops k ≡ p → T [] (desk_after s i ws q os pops push)
+    (os : List Owned) (pops : ℕ → Pop) → pops k ≡ p → T [] (driver_after s i ws q os pops push)
 
-pub stays : (s : Machine) (i : Spot) (page_size k : ℕ) (q : QueueState) (ws : List ChainHandle) (os : List Owned)
-    (pops : ℕ → Pop) (push : Option Begun) (old new : ChainHandle) (T : List LiveEvent → Desk → Type 0)
+pub stays : (s : RunState) (i : QueuePlace) (page_size k : ℕ) (q : QueueState) (ws : List ChainHandle) (os : List Owned)
+    (pops : ℕ → Pop) (push : Option PushUnderWay) (old new : ChainHandle) (T : List LiveEvent → Driver → Type 0)
     → DrivenAt s i page_size k q ws os pops push → slice_get ws k ≡ Some old → IsSameHeld old new
     → ReportsNone s i q (with_handle ws k new) push k (pops k) T
-    → LeadsAt s i page_size k pops q (with_handle ws k new) T
+    → HasRunAt s i page_size k pops q (with_handle ws k new) T
 stays s i page_size k q ws os pops push old new T all there same reports = by_out (is_out old.state) refl
   where
-    moves : Moves s s i page_size k q q (pops k) push push new
+    moves : MovesRun s s i page_size k q q (pops k) push push new
     moves =
         stays_put s i page_size k q q (pops k) push new all.queue refl (λ head len. refl) refl all.still
         (fits_same s.places s.limit q (pops k) old new same (all.fits old there))
 
-    by_out : (b : Bool) → is_out old.state ≡ b → LeadsAt s i page_size k pops q (with_handle ws k new) T
+    by_out : (b : Bool) → is_out old.state ≡ b → HasRunAt s i page_size k pops q (with_handle ws k new) T
     by_out true out =
         let has = has_own s i page_size q ws os k old pops push all there (all.outs old there out) in
         let c = has.c in
         let holds = holds_same s.page_size c old new same has.holds in
-        let ready : IsReady page_size k q push c new.state =
-        subst (λ (st : state.ChainState). IsReady page_size k q push c st) (sym same.0) has.mine.1 in (
+        let ready : CanBePushed page_size k q push c new.state =
+        subst (λ (st : state.ChainState). CanBePushed page_size k q push c st) (sym same.0) has.mine.1 in (
           [],
           s,
           has.ob ++ own k c ∷ has.oh,
@@ -165,21 +165,21 @@ stays s i page_size k q ws os pops push old new T all there same reports = by_ou
     )
 
 -- a call that is refused, or not made
-pub refuses : (page_size : ℕ) (old new : ChainHandle) (q : QueueState) (command : Command)
-    (returned : Returned)
+pub refuses : (page_size : ℕ) (old new : ChainHandle) (q : QueueState) (command : DriverCall)
+    (returned : Results)
     → IsSameHeld old new
-    → ((i k : ℕ) (d d' : Desk) (u : Unseen) → d'.pops k ≡ d.pops k →
-    Reports (transition i page_size k d d' old new q q) command u returned [])
+    → ((i k : ℕ) (d d' : Driver) (u : Unseen) → d'.pops k ≡ d.pops k →
+    EventsOf (transition i page_size k d d' old new q q) command u returned [])
     → DrivesOne page_size old new q q command returned
 refuses page_size old new q command returned same reports = drives_one command returned at_spot
   where
     at_spot : DrivesAt page_size old new q q command returned
     at_spot ws k there u s i os pops push all =
         stays s i page_size k q ws os pops push old new
-        (λ es d. Reports (transition i.number page_size k (desk_before s i ws os pops) d old new q q) command u returned es)
+        (λ es d. EventsOf (transition i.number page_size k (driver_before s i ws os pops) d old new q q) command u returned es)
         all there same
-        (λ after loads' pop. reports i.number k (desk_before s i ws os pops)
-        (desk_after s i (with_handle ws k new) q after loads' push) u pop)
+        (λ after loads' pop. reports i.number k (driver_before s i ws os pops)
+        (driver_after s i (with_handle ws k new) q after loads' push) u pop)
 
 pub same_held : (old new : ChainHandle) → new ≡ old → IsSameHeld old new
 same_held old new same = (
@@ -202,14 +202,14 @@ OutOf c p out = (p ≡ Fetched) × IsOutAs c out
 
 pub taken_out : (page_size : ℕ) (c : InFlightChain) (p : Phase) (st : state.ChainState) (session : Session)
     (out : InFlight) →
-    st ≡ at.Taken out →
+    st ≡ at.Popped out →
     IsHeldIn page_size c p st session → OutOf c p out
 taken_out page_size c p st session out is held =
     by_phase page_size c p session out (subst (λ (x : state.ChainState). IsHeldIn page_size c p x session) is
     held)
   where
     by_phase : (page_size : ℕ) (c : InFlightChain) (p : Phase) (session : Session) (out : InFlight) →
-        IsHeldIn page_size c p (at.Taken out) session
+        IsHeldIn page_size c p (at.Popped out) session
         → OutOf c p out
     by_phase page_size c Fetched session out held = (refl, held)
     by_phase page_size c (PoppedFaulty why) session out held = absurd held
@@ -218,63 +218,63 @@ taken_out page_size c p st session out is held =
     by_phase page_size c (Abandoned fault) session out held = absurd held
 
 -- a chain that isn't decoded yet is in a handle without a reply
-pub fetched_ready : (page_size n k : ℕ) (q : QueueState) (push : Option Begun) (c : InFlightChain) (p : Phase)
+pub fetched_ready : (page_size n k : ℕ) (q : QueueState) (push : Option PushUnderWay) (c : InFlightChain) (p : Phase)
     (st : state.ChainState) (session : Session) → p ≡ Fetched →
-    IsHeldIn n c p st session → IsReady page_size k q push c st
+    IsHeldIn n c p st session → CanBePushed page_size k q push c st
 fetched_ready page_size n k q push c p st session is held =
     by_state page_size n c st session (subst (λ (x : Phase). IsHeldIn n c x st session) is held)
   where
     by_state : (page_size n : ℕ) (c : InFlightChain) (st : state.ChainState) (session : Session) →
         IsHeldIn n c Fetched st session
-        → IsReady page_size k q push c st
-    by_state page_size n c (at.HasReply out preserved) session held = absurd held
+        → CanBePushed page_size k q push c st
+    by_state page_size n c (at.Replied out kept) session held = absurd held
     by_state page_size n c (at.Pushing out) session held = absurd held
     by_state page_size n c at.Free session held = tt
-    by_state page_size n c (at.Walking course pop_id walk) session held = tt
-    by_state page_size n c (at.Taken out) session held = tt
-    by_state page_size n c (at.Waits out w) session held = tt
-    by_state page_size n c (at.Lists out l) session held = absurd held
+    by_state page_size n c (at.Popping course pop_id walk) session held = tt
+    by_state page_size n c (at.Popped out) session held = tt
+    by_state page_size n c (at.Decoded out w) session held = tt
+    by_state page_size n c (at.Listing out l) session held = absurd held
 
 -- ---- a handle that pushes nothing, and lists nothing
 
 abbrev pub HasNoPush : state.ChainState → Type 0
 HasNoPush (at.Pushing out) = ⊥
-HasNoPush (at.Lists out listing) = ⊥
+HasNoPush (at.Listing out listing) = ⊥
 HasNoPush _ = Unit {0}
 
 pub reply_no_push : (s : Setting) (m : Meaning) (bytes : List ℕ) (out : InFlight) (st : state.ChainState) →
     KeepsReply s m bytes out st → HasNoPush st
 reply_no_push s m bytes out (at.Pushing o) keeps = absurd keeps
-reply_no_push s m bytes out (at.Lists o l) keeps = absurd keeps
+reply_no_push s m bytes out (at.Listing o l) keeps = absurd keeps
 reply_no_push s m bytes out _ keeps = tt
 
 pub replied_no_push : (reply bytes : List ℕ) (st : state.ChainState) → IsRepliedWith reply bytes st → HasNoPush st
 replied_no_push reply bytes (at.Pushing o) is = absurd is
-replied_no_push reply bytes (at.Lists o l) is = absurd is
+replied_no_push reply bytes (at.Listing o l) is = absurd is
 replied_no_push reply bytes _ is = tt
 
 -- a chain without a pending call can be pushed
-pub done_ready : (page_size k : ℕ) (q : QueueState) (push : Option Begun) (c : InFlightChain)
+pub done_ready : (page_size k : ℕ) (q : QueueState) (push : Option PushUnderWay) (c : InFlightChain)
     (request : List ℕ) (options : ℕ) (calls : Calls) (st : state.ChainState)
     → (serving page_size options options request (room_of (asked_chain c request options calls))
     calls).calls ≡ calls_alone calls
-    → HasNoPush st → IsReady page_size k q push (asked_chain c request options calls) st
-done_ready page_size k q push c request options calls (at.HasReply out preserved) done quiet = (
+    → HasNoPush st → CanBePushed page_size k q push (asked_chain c request options calls) st
+done_ready page_size k q push c request options calls (at.Replied out kept) done quiet = (
   served_exchange c.head request
       (serving page_size options options request (room_of (asked_chain c request options calls)) calls),
   (done, refl),
 )
 done_ready page_size k q push c request options calls (at.Pushing out) done quiet = absurd quiet
-done_ready page_size k q push c request options calls (at.Lists out l) done quiet = absurd quiet
+done_ready page_size k q push c request options calls (at.Listing out l) done quiet = absurd quiet
 done_ready page_size k q push c request options calls _ done quiet = tt
 
-pub call_waits : (page_size k : ℕ) (q : QueueState) (push : Option Begun) (c : InFlightChain) (request : List ℕ)
+pub call_waits : (page_size k : ℕ) (q : QueueState) (push : Option PushUnderWay) (c : InFlightChain) (request : List ℕ)
     (options : ℕ) (s : Setting) (m : Meaning) (bytes : List ℕ) (made : made_call.FileCall) (out : InFlight)
     (st : state.ChainState) → KeepsCall s m bytes made out st → IsUnanswered (Asked request options []) st
-    → IsReady page_size k q push (asked_chain c request options []) st
-call_waits page_size k q push c request options s m bytes made out (at.HasReply o preserved) keeps fresh = absurd keeps
+    → CanBePushed page_size k q push (asked_chain c request options []) st
+call_waits page_size k q push c request options s m bytes made out (at.Replied o kept) keeps fresh = absurd keeps
 call_waits page_size k q push c request options s m bytes made out (at.Pushing o) keeps fresh = absurd keeps
-call_waits page_size k q push c request options s m bytes made out (at.Lists o l) keeps fresh = fresh
+call_waits page_size k q push c request options s m bytes made out (at.Listing o l) keeps fresh = fresh
 call_waits page_size k q push c request options s m bytes made out _ keeps fresh = tt
 
 -- ---- small lemmas
@@ -288,15 +288,15 @@ pub no_error : {A : Type 0} (x : A) → Some x ≡ None → ⊥
 no_error x e = cc
 
 -- a pop that asks for more, or got a part of a load
-pub still : (s : Machine) (i : Spot) (page_size k : ℕ) (q q' : QueueState) (ws : List ChainHandle) (os : List Owned)
-    (pops : ℕ → Pop) (push : Option Begun) (old new : ChainHandle) (p : Pop)
-    (T : List LiveEvent → Desk → Type 0)
+pub still : (s : RunState) (i : QueuePlace) (page_size k : ℕ) (q q' : QueueState) (ws : List ChainHandle) (os : List Owned)
+    (pops : ℕ → Pop) (push : Option PushUnderWay) (old new : ChainHandle) (p : Pop)
+    (T : List LiveEvent → Driver → Type 0)
     → DrivenAt s i page_size k q ws os pops push → slice_get ws k ≡ Some old → is_out old.state ≡ false →
     KeepsMemory old new
     → IsPopOf q p
     → HoldsPop s.limit p new × (q' ≡ q)
-    → T [] (desk_after s i (with_handle ws k new) q' os (with_pop pops k p) push)
-    → LeadsAt s i page_size k pops q' (with_handle ws k new) T
+    → T [] (driver_after s i (with_handle ws k new) q' os (with_pop pops k p) push)
+    → HasRunAt s i page_size k pops q' (with_handle ws k new) T
 still s i page_size k q q' ws os pops push old new p T all there free same event is reports =
     let was = all.fits old there in
     let may : MayPop s.limit q p new new.state =
@@ -310,7 +310,7 @@ still s i page_size k q q' ws os pops push old new p T all there free same event
       refl,
       idles s s i page_size q q' ws os k old new p pops push push all there
           (stays_put s i page_size k q q' p push new
-          (subst (λ (r : QueueState). IsQueue s i.number r) (sym is.1) all.queue)
+          (subst (λ (r : QueueState). IsRunQueue s i.number r) (sym is.1) all.queue)
           (same_index q' _ is.1)
           (λ head len. ap (λ (r : QueueState). stores_after_reply (returning (live_of r)) head len) is.1)
           (ap (λ (r : QueueState). r.pushing) is.1) all.still

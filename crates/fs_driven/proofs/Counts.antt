@@ -10,7 +10,7 @@ use Rattle.fs_chain.specs.Holds.{live_of}
 use Rattle.fs_chain.specs.Queues as queues
 use Rattle.fs_chain.specs.declared.queue.QueueState.{QueueState}
 use Rattle.fs_chain.specs.Together.{Owned}
-use Rattle.fs_driven.specs.Desks.{HasInFlight, number_of}
+use Rattle.fs_driven.specs.Drivers.{HasInFlight, number_of}
 
 -- as many as before, one more, or one less
 abbrev pub CountsSame : (w w' : LiveQueue) → Type 0

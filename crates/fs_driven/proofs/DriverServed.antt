@@ -27,16 +27,16 @@ use Rattle.fs_chain.specs.declared.popping.PopOutcome as walked
 use Rattle.fs_chain.specs.declared.popping.PopOutcome.TheVariants as shows
 use Rattle.fs_chain.specs.declared.notifications.NotificationStore.{NotificationStore}
 use Rattle.fs_chain.specs.Orders.{is_out}
-use Rattle.fs_driven.specs.Desks.{Desk, Driven, In, own}
+use Rattle.fs_driven.specs.Drivers.{Driver, Driven, In, own}
 use Rattle.fs_driven.specs.Entries.{answers_of}
 use Rattle.fs_driven.specs.Moving.{moving, resetting}
-use Rattle.fs_driven.specs.Reported.{AbandonReports, Called, DecodeReports, GiveUpReports, PopReports, Reports}
-use Rattle.fs_driven.specs.Reported.{ReportsAll, ReportsCall, ReportsOfQueue, Transition, Unseen, data_of, forgetting, storing, transition}
+use Rattle.fs_driven.specs.Events.{AbandonEvents, Called, DecodeEvents, GiveUpEvents, PopEvents, EventsOf}
+use Rattle.fs_driven.specs.Events.{EventsOfAll, EventsOfCall, EventsOfQueue, Transition, Unseen, data_of, forgetting, storing, transition}
 use Rattle.fs_driven.specs.Served.{DriverServes, is_chain, is_of, is_push, pops_on, pushes_on, returned_on}
-use Rattle.fs_driven.specs.declared.commands.Command.{Command}
-use Rattle.fs_driven.specs.declared.commands.Command.TheVariants as does
-use Rattle.fs_driven.specs.declared.commands.Returned.{Returned}
-use Rattle.fs_driven.specs.declared.commands.Returned.TheVariants as gives
+use Rattle.fs_driven.specs.declared.commands.DriverCall.{DriverCall}
+use Rattle.fs_driven.specs.declared.commands.DriverCall.TheVariants as does
+use Rattle.fs_driven.specs.declared.commands.Results.{Results}
+use Rattle.fs_driven.specs.declared.commands.Results.TheVariants as gives
 use Rattle.fs_driven.proofs.Served.{each_is_served, taken_all, taken_in}
 
 abbrev chained : comes.CourseStep → ℕ
@@ -60,8 +60,8 @@ module _ (i : ℕ) where
   setting_quiet true options c request calls = (refl, refl)
   setting_quiet false options c request calls = (refl, refl)
 
-  decode_quiet : (t : Transition) (session : Session) (request : List ℕ) (reported : Decoded) (es : List LiveEvent)
-      → DecodeReports t session request reported es → Quiet es
+  decode_quiet : (t : Transition) (session : Session) (request : List ℕ) (result : Decoded) (es : List LiveEvent)
+      → DecodeEvents t session request result es → Quiet es
   decode_quiet t session request (asks.More n) es r = none_quiet es r
   decode_quiet t session request _ es r = quiet_by es _ r.2 (setting_quiet _ session.options.0 r.0 request _)
 
@@ -85,11 +85,11 @@ module _ (i : ℕ) where
       → es ≡ answers_of c request options [] calls → Quiet es
   gathered_quiet calls c request options es is = quiet_by es _ is (answers_quiet calls [] c request options)
 
-  give_up_quiet : (t : Transition) (b : Bool) (es : List LiveEvent) → GiveUpReports t b es → Quiet es
+  give_up_quiet : (t : Transition) (b : Bool) (es : List LiveEvent) → GiveUpEvents t b es → Quiet es
   give_up_quiet t false es r = none_quiet es r
   give_up_quiet t true es r = quiet_by es _ r.2 (refl, refl)
 
-  abandon_quiet : (t : Transition) (b : Bool) (es : List LiveEvent) → AbandonReports t b es → Quiet es
+  abandon_quiet : (t : Transition) (b : Bool) (es : List LiveEvent) → AbandonEvents t b es → Quiet es
   abandon_quiet t false es r = none_quiet es r
   abandon_quiet t true es r = quiet_by es _ r.2 (refl, refl)
 
@@ -114,7 +114,7 @@ module _ (i : ℕ) where
 
   -- ---- a call
 
-  abbrev Counted : Bool → Returned → List LiveEvent → Type 0
+  abbrev Counted : Bool → Results → List LiveEvent → Type 0
   Counted b returned es =
       (pops_on chained i es ≡ (if b then is_chain returned else 0)) × (pushes_on i es ≡ (if b then is_push returned else 0))
 
@@ -127,7 +127,7 @@ module _ (i : ℕ) where
   one_more false n = omega arith
 
   -- a call that returned neither
-  quiet_counted : (b : Bool) (returned : Returned) (es : List LiveEvent) → is_chain returned ≡ 0 → is_push returned ≡ 0 → Quiet es →
+  quiet_counted : (b : Bool) (returned : Results) (es : List LiveEvent) → is_chain returned ≡ 0 → is_push returned ≡ 0 → Quiet es →
       Counted b returned es
   quiet_counted b returned es no_chain no_push quiet = (
     quiet.0 ∙ same_if b 0 ∙ ap (λ (n : ℕ). if b then n else 0) (sym no_chain),
@@ -139,25 +139,25 @@ module _ (i : ℕ) where
   by_outcome (shows.Faulty head fault) = 1
   by_outcome _ = 0
 
-  as_popped : (reported : walked.PopOutcome) → by_outcome reported ≡ is_chain (gives.Popped (Ok (outcomes.On reported)))
+  as_popped : (result : walked.PopOutcome) → by_outcome result ≡ is_chain (gives.Popped (Ok (outcomes.On result)))
   as_popped (shows.Chain head request_len room_len) = refl
   as_popped (shows.Faulty head fault) = refl
   as_popped _ = refl
 
-  as_ahead : (reported : walked.PopOutcome) → by_outcome reported ≡ is_chain (gives.PoppedAhead (Ok reported))
+  as_ahead : (result : walked.PopOutcome) → by_outcome result ≡ is_chain (gives.PoppedAhead (Ok result))
   as_ahead (shows.Chain head request_len room_len) = refl
   as_ahead (shows.Faulty head fault) = refl
   as_ahead _ = refl
 
   abbrev PopCounted : Transition → walked.PopOutcome → List LiveEvent → Type 0
-  PopCounted t reported es = (pops_on chained i es ≡ (if t.queue == i then by_outcome reported else 0)) × (pushes_on i es ≡ 0)
+  PopCounted t result es = (pops_on chained i es ≡ (if t.queue == i then by_outcome result else 0)) × (pushes_on i es ≡ 0)
 
   pop_quiet : (t : Transition) (es : List LiveEvent) → Quiet es
       → (pops_on chained i es ≡ (if t.queue == i then 0 else 0)) × (pushes_on i es ≡ 0)
   pop_quiet t es quiet = (quiet.0 ∙ same_if (t.queue == i) 0, quiet.1)
 
-  pop_counted : (t : Transition) (loaded : Loaded) (reported : walked.PopOutcome) (es : List LiveEvent) → PopReports t loaded reported es →
-      PopCounted t reported es
+  pop_counted : (t : Transition) (loaded : Loaded) (result : walked.PopOutcome) (es : List LiveEvent) → PopEvents t loaded result es →
+      PopCounted t result es
   pop_counted t loaded (shows.Load n) es r = pop_quiet t es (none_quiet es r.0)
   pop_counted t loaded (shows.Missing range access) es r = pop_quiet t es (none_quiet es r)
   pop_counted t loaded shows.Idle es r =
@@ -170,58 +170,58 @@ module _ (i : ℕ) where
   pop_counted t loaded (shows.Faulty head fault) es r =
       (ap (λ (l : List LiveEvent). pops_on chained i l) r ∙ one_more (t.queue == i) 1, ap (λ (l : List LiveEvent). pushes_on i l) r)
 
-  popped_counted : (t : Transition) (reported : walked.PopOutcome) (es : List LiveEvent) → PopCounted t reported es →
-      Counted (t.queue == i) (gives.Popped (Ok (outcomes.On reported))) es
-  popped_counted t reported es p =
-      (p.0 ∙ ap (λ (n : ℕ). if t.queue == i then n else 0) (as_popped reported), p.1 ∙ same_if (t.queue == i) 0)
+  popped_counted : (t : Transition) (result : walked.PopOutcome) (es : List LiveEvent) → PopCounted t result es →
+      Counted (t.queue == i) (gives.Popped (Ok (outcomes.On result))) es
+  popped_counted t result es p =
+      (p.0 ∙ ap (λ (n : ℕ). if t.queue == i then n else 0) (as_popped result), p.1 ∙ same_if (t.queue == i) 0)
 
-  ahead_counted : (t : Transition) (reported : walked.PopOutcome) (es : List LiveEvent) → PopCounted t reported es →
-      Counted (t.queue == i) (gives.PoppedAhead (Ok reported)) es
-  ahead_counted t reported es p =
-      (p.0 ∙ ap (λ (n : ℕ). if t.queue == i then n else 0) (as_ahead reported), p.1 ∙ same_if (t.queue == i) 0)
+  ahead_counted : (t : Transition) (result : walked.PopOutcome) (es : List LiveEvent) → PopCounted t result es →
+      Counted (t.queue == i) (gives.PoppedAhead (Ok result)) es
+  ahead_counted t result es p =
+      (p.0 ∙ ap (λ (n : ℕ). if t.queue == i then n else 0) (as_ahead result), p.1 ∙ same_if (t.queue == i) 0)
 
   -- each chain of the handle is its queue's
   abbrev OwnsByQueue : Transition → Type 0
   OwnsByQueue t = (c : InFlightChain) → In (own t.handle c) t.old.owned → c.queue ≡ t.queue
 
-  counted : (t : Transition) (command : Command) (u : Unseen) (returned : Returned) (es : List LiveEvent) → OwnsByQueue t →
-      Reports t command u returned es → Counted (t.queue == i) returned es
+  counted : (t : Transition) (command : DriverCall) (u : Unseen) (returned : Results) (es : List LiveEvent) → OwnsByQueue t →
+      EventsOf t command u returned es → Counted (t.queue == i) returned es
   counted t (does.Pop bytes) u (gives.Popped (Err e)) es mine r =
       quiet_counted (t.queue == i) (gives.Popped (Err e)) es refl refl (none_quiet es r.0)
   counted t (does.Pop bytes) u (gives.Popped (Ok outcomes.Part)) es mine r =
       quiet_counted (t.queue == i) (gives.Popped (Ok outcomes.Part)) es refl refl (none_quiet es r.0)
-  counted t (does.Pop bytes) u (gives.Popped (Ok (outcomes.On reported))) es mine r =
-      popped_counted t reported es (pop_counted t r.1 reported es r.3)
+  counted t (does.Pop bytes) u (gives.Popped (Ok (outcomes.On result))) es mine r =
+      popped_counted t result es (pop_counted t r.1 result es r.3)
   counted t (does.PopAhead ahead bytes) u (gives.PoppedAhead (Err e)) es mine r =
       quiet_counted (t.queue == i) (gives.PoppedAhead (Err e)) es refl refl (none_quiet es r.0)
-  counted t (does.PopAhead ahead bytes) u (gives.PoppedAhead (Ok reported)) es mine r =
-      ahead_counted t reported es (pop_counted t r.1 reported es r.3)
+  counted t (does.PopAhead ahead bytes) u (gives.PoppedAhead (Ok result)) es mine r =
+      ahead_counted t result es (pop_counted t r.1 result es r.3)
   counted t (does.Decode session front) u (gives.Decoded (Err e)) es mine r =
       quiet_counted (t.queue == i) (gives.Decoded (Err e)) es refl refl (none_quiet es r.0)
-  counted t (does.Decode session front) u (gives.Decoded (Ok reported)) es mine r =
-      quiet_counted (t.queue == i) (gives.Decoded (Ok reported)) es refl refl (decode_quiet t session _ reported es r.5)
+  counted t (does.Decode session front) u (gives.Decoded (Ok result)) es mine r =
+      quiet_counted (t.queue == i) (gives.Decoded (Ok result)) es refl refl (decode_quiet t session _ result es r.5)
   counted t (does.Decode session front) u gives.OtherSession es mine r =
       quiet_counted (t.queue == i) gives.OtherSession es refl refl (none_quiet es r.0)
-  counted t (does.Answer serial answer) u (gives.Answered (Err e)) es mine r =
+  counted t (does.Answer ticket answer) u (gives.Answered (Err e)) es mine r =
       quiet_counted (t.queue == i) (gives.Answered (Err e)) es refl refl (none_quiet es r.0)
-  counted t (does.Answer serial answer) u (gives.Answered (Ok reported)) es mine r =
-      quiet_counted (t.queue == i) (gives.Answered (Ok reported)) es refl refl
-      (answer_quiet r.4 r.5 (answer_of (data_of answer u) answer) r.6 r.7 reported.forget es r.10)
-  counted t (does.Reply serial len) u (gives.Replied (Err e)) es mine r =
+  counted t (does.Answer ticket answer) u (gives.Answered (Ok result)) es mine r =
+      quiet_counted (t.queue == i) (gives.Answered (Ok result)) es refl refl
+      (answer_quiet r.4 r.5 (answer_of (data_of answer u) answer) r.6 r.7 result.forget es r.10)
+  counted t (does.Reply ticket len) u (gives.Replied (Err e)) es mine r =
       quiet_counted (t.queue == i) (gives.Replied (Err e)) es refl refl (none_quiet es r.0)
-  counted t (does.Reply serial len) u (gives.Replied (Ok done)) es mine r =
+  counted t (does.Reply ticket len) u (gives.Replied (Ok done)) es mine r =
       quiet_counted (t.queue == i) (gives.Replied (Ok done)) es refl refl (quiet_by es _ r.5 (refl, refl))
-  counted t (does.EndListing serial) u (gives.Listed (Err e)) es mine r =
+  counted t (does.EndListing ticket) u (gives.Listed (Err e)) es mine r =
       quiet_counted (t.queue == i) (gives.Listed (Err e)) es refl refl (none_quiet es r.0)
-  counted t (does.EndListing serial) u (gives.Listed (Ok len)) es mine r =
+  counted t (does.EndListing ticket) u (gives.Listed (Ok len)) es mine r =
       quiet_counted (t.queue == i) (gives.Listed (Ok len)) es refl refl (quiet_by es _ r.7 (refl, refl))
-  counted t (does.FailListing serial errno) u (gives.Listed (Err e)) es mine r =
+  counted t (does.FailListing ticket errno) u (gives.Listed (Err e)) es mine r =
       quiet_counted (t.queue == i) (gives.Listed (Err e)) es refl refl (none_quiet es r.0)
-  counted t (does.FailListing serial errno) u (gives.Listed (Ok len)) es mine r =
+  counted t (does.FailListing ticket errno) u (gives.Listed (Ok len)) es mine r =
       quiet_counted (t.queue == i) (gives.Listed (Ok len)) es refl refl (quiet_by es _ r.7 (refl, refl))
-  counted t (does.Gather serial entries names failure) u (gives.Gathered added last (Err e) list) es mine r =
+  counted t (does.Gather ticket entries names failure) u (gives.Gathered added last (Err e) list) es mine r =
       quiet_counted (t.queue == i) (gives.Gathered added last (Err e) list) es refl refl (none_quiet es r.0)
-  counted t (does.Gather serial entries names failure) u (gives.Gathered added last (Ok len) list) es mine r =
+  counted t (does.Gather ticket entries names failure) u (gives.Gathered added last (Ok len) list) es mine r =
       quiet_counted (t.queue == i) (gives.Gathered added last (Ok len) list) es refl refl
       (gathered_quiet _ r.5 r.6 r.7 es r.16.0)
   counted t does.Push u (gives.Began (Err e) front) es mine r =
@@ -252,8 +252,8 @@ module _ (i : ℕ) where
   counted t _ u _ es mine r = absurd r
 
   -- a call of a queue, or of all
-  queue_counted : (b : Bool) (on : List ℕ) (d d' : Desk) (command : Command) (returned : Returned) (es : List LiveEvent)
-      → ReportsOfQueue on d d' command returned es → Counted b returned es
+  queue_counted : (b : Bool) (on : List ℕ) (d d' : Driver) (command : DriverCall) (returned : Results) (es : List LiveEvent)
+      → EventsOfQueue on d d' command returned es → Counted b returned es
   queue_counted b on d d' (does.Reset j layout position) (gives.Reset true) es r =
       quiet_counted b (gives.Reset true) es refl refl (quiet_by es _ r.2.0 (refl, refl))
   queue_counted b on d d' (does.Reset j layout position) (gives.Reset false) es r =
@@ -275,15 +275,15 @@ module _ (i : ℕ) where
       quiet_counted b (gives.Moved (Err e)) es refl refl (none_quiet es r.0)
   queue_counted b on d d' _ _ es r = absurd r
 
-  call_counted : (on : List ℕ) (page_size : ℕ) (d d' : Desk) (call : Called) (u : Unseen) (es : List LiveEvent)
-      → Driven d.run on page_size d.queues d.handles d.owned d.pops d.pushes → ReportsCall on page_size d d' call u es
+  call_counted : (on : List ℕ) (page_size : ℕ) (d d' : Driver) (call : Called) (u : Unseen) (es : List LiveEvent)
+      → Driven d.run on page_size d.queues d.handles d.owned d.pops d.pushes → EventsOfCall on page_size d d' call u es
       → Counted (is_of i (slice_get on call.place)) call.returned es
   call_counted on page_size d d' call u es all (inl (is, k)) =
       subst (λ (b : Bool). Counted b call.returned es) (sym (ap (is_of i) k.number))
       (counted (transition k.queue page_size call.place d d' k.was k.now k.before k.after) call.command u call.returned es
       (λ c has. same_some c.queue k.queue (sym (all.mine call.place k.was c k.handle has).0 ∙ k.number)) k.reports)
   call_counted on page_size d d' call u es all (inr (inl (is, missing, returned, none, same))) =
-      subst (λ (r : Returned). Counted (is_of i (slice_get on call.place)) r es) (sym returned)
+      subst (λ (r : Results). Counted (is_of i (slice_get on call.place)) r es) (sym returned)
       (quiet_counted (is_of i (slice_get on call.place)) gives.NoHandle es refl refl (none_quiet es none))
   call_counted on page_size d d' call u es all (inr (inr r)) =
       queue_counted (is_of i (slice_get on call.place)) on d d' call.command call.returned es r
@@ -301,16 +301,16 @@ module _ (i : ℕ) where
   pushes_append (_ ∷ xs) ys = pushes_append xs ys
 
   -- a driver's calls are a run, with as many pops and pushes as they returned
-  record IsRunOf (on : List ℕ) (d d' : Desk) (zs : List (Called × Unseen)) (es : List LiveEvent) : Type 0 where
+  record IsRunOf (on : List ℕ) (d d' : Driver) (zs : List (Called × Unseen)) (es : List LiveEvent) : Type 0 where
     run : LiveRun any_files d.run es d'.run
     pops : pops_on chained i es ≡ returned_on on is_chain i zs
     pushes : pushes_on i es ≡ returned_on on is_push i zs
 
-  run_of : (on : List ℕ) (page_size : ℕ) (d d' : Desk) (zs : List (Called × Unseen)) (es : List LiveEvent)
-      → Driven d.run on page_size d.queues d.handles d.owned d.pops d.pushes → ReportsAll on page_size d zs es d'
+  run_of : (on : List ℕ) (page_size : ℕ) (d d' : Driver) (zs : List (Called × Unseen)) (es : List LiveEvent)
+      → Driven d.run on page_size d.queues d.handles d.owned d.pops d.pushes → EventsOfAll on page_size d zs es d'
       → IsRunOf on d d' zs es
   run_of on page_size d d' [] es all (none, same) = record {
-    run = subst (λ (l : List LiveEvent). LiveRun any_files d.run l d'.run) (sym none) (ap (λ (k : Desk). k.run) same);
+    run = subst (λ (l : List LiveEvent). LiveRun any_files d.run l d'.run) (sym none) (ap (λ (k : Driver). k.run) same);
     pops = ap (λ (l : List LiveEvent). pops_on chained i l) none;
     pushes = ap (λ (l : List LiveEvent). pushes_on i l) none;
   }

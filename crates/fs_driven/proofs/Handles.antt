@@ -11,11 +11,11 @@ use Rattle.live_machine.specs.Several.{returning}
 use Rattle.live_machine.proofs.Moved.{joined}
 use Rattle.live_machine.proofs.Queues.{apart_of, same_some, there_other, there_same}
 use Rattle.server_phases.specs.declared.session.Session.{Session}
-use Rattle.fs_chain.specs.Holds.{HoldsChain, IsHeldIn, IsQueue, Machine, Pop, any_files, live_of}
+use Rattle.fs_chain.specs.Holds.{HoldsInFlight, IsHeldIn, IsRunQueue, RunState, Pop, any_files, live_of}
 use Rattle.fs_chain.specs.Orders.{is_out}
-use Rattle.fs_driven.specs.Desks.{Begun, Desk, Driven, FitsRun, In, IsItsOwn, IsReady, IsUnderWay, MayPop, desk, lost, own}
-use Rattle.fs_driven.specs.Desks.{HasInFlight, number_of, with_pop, with_push, with_queue}
-use Rattle.fs_driven.specs.Reported.{Called, Drives, ReportsAll, Unseen, seen_of}
+use Rattle.fs_driven.specs.Drivers.{PushUnderWay, Driver, Driven, FitsRun, In, IsItsOwn, CanBePushed, IsUnderWay, MayPop, driver, lost, own}
+use Rattle.fs_driven.specs.Drivers.{HasInFlight, number_of, with_pop, with_push, with_queue}
+use Rattle.fs_driven.specs.Events.{Called, Drives, EventsOfAll, Unseen, seen_of}
 use Rattle.fs_chain.specs.Together.{HasNone, IsHeldBy, IsNot, Owned, Together, with_handle}
 use Rattle.fs_chain.specs.declared.chain_handle.ChainHandle.{ChainHandle}
 use Rattle.fs_chain.specs.declared.queue.QueueState.{QueueState}
@@ -25,15 +25,15 @@ use Rattle.fs_chain.proofs.Together.{all_still, amid, chains_of, finds_own, join
 use Rattle.fs_driven.proofs.Among.{among, among_on, another, by_number, here, not_lost, others_apart, put, same_chain}
 use Rattle.fs_driven.proofs.Among.{same_number, split, the_new}
 use Rattle.fs_driven.proofs.Counts.{CountsLess, CountsMore, CountsSame, number_one, number_other, number_same}
-use Rattle.fs_driven.proofs.Spots.{DrivenAt, Spot, push_apart, push_here}
+use Rattle.fs_driven.proofs.QueuePlaces.{DrivenAt, QueuePlace, push_apart, push_here}
 
 -- ---- a call
 
 -- a call of handle k leaves the pushes of the others as they are
-abbrev pub OthersReady : (page_size k : ℕ) → (q q' : QueueState) → (push push' : Option Begun) → Type 0
+abbrev pub OthersReady : (page_size k : ℕ) → (q q' : QueueState) → (push push' : Option PushUnderWay) → Type 0
 OthersReady page_size k q q' push push' =
-    (j : ℕ) (c : InFlightChain) (st : state.ChainState) → (k ≡ j → ⊥) → IsReady page_size j q push c st →
-    IsReady page_size j q' push' c st
+    (j : ℕ) (c : InFlightChain) (st : state.ChainState) → (k ≡ j → ⊥) → CanBePushed page_size j q push c st →
+    CanBePushed page_size j q' push' c st
 
 -- the next push is stored at the same places
 abbrev pub SamePlaces : (q q' : QueueState) → Type 0
@@ -41,51 +41,51 @@ SamePlaces q q' =
     (head len : ℕ) →
     stores_after_reply (returning (live_of q')) head len ≡ stores_after_reply (returning (live_of q)) head len
 
-under_way_on : (k : ℕ) (q q' : QueueState) (c : InFlightChain) (x : Exchange) (push : Option Begun) →
+under_way_on : (k : ℕ) (q q' : QueueState) (c : InFlightChain) (x : Exchange) (push : Option PushUnderWay) →
     SamePlaces q q' → IsUnderWay k q c x push → IsUnderWay k q' c x push
 under_way_on k q q' c x None same is = absurd is
 under_way_on k q q' c x (Some b) same is =
     (is.0, (is.1.0 ∙ sym (same c.head (length x.reply)), is.1.1, is.1.2))
 
-ready_on : (page_size k : ℕ) (q q' : QueueState) (push : Option Begun) (c : InFlightChain)
-    (st : state.ChainState) → SamePlaces q q' → IsReady page_size k q push c st →
-    IsReady page_size k q' push c st
+ready_on : (page_size k : ℕ) (q q' : QueueState) (push : Option PushUnderWay) (c : InFlightChain)
+    (st : state.ChainState) → SamePlaces q q' → CanBePushed page_size k q push c st →
+    CanBePushed page_size k q' push c st
 ready_on page_size k q q' push c (at.Pushing out) same is =
     (is.0, is.1, under_way_on k q q' c is.0 push same is.2)
-ready_on page_size k q q' push c (at.HasReply out preserved) same is = is
-ready_on page_size k q q' push c (at.Lists out listing) same is = is
+ready_on page_size k q q' push c (at.Replied out kept) same is = is
+ready_on page_size k q q' push c (at.Listing out listing) same is = is
 ready_on page_size k q q' push c _ same is = tt
 
-pub others_same : (page_size k : ℕ) (q q' : QueueState) (push : Option Begun) → SamePlaces q q' →
+pub others_same : (page_size k : ℕ) (q q' : QueueState) (push : Option PushUnderWay) → SamePlaces q q' →
     OthersReady page_size k q q' push push
 others_same page_size k q q' push same j c st apart is = ready_on page_size j q q' push c st same is
 
 -- the push under way is handle k's
-abbrev pub IsOnlyOf : ℕ → Option Begun → Type 0
+abbrev pub IsOnlyOf : ℕ → Option PushUnderWay → Type 0
 IsOnlyOf k None = Unit {0}
 IsOnlyOf k (Some b) = b.handle ≡ k
 
-pub others_none : (page_size k : ℕ) (q q' : QueueState) (push push' : Option Begun) → IsOnlyOf k push →
+pub others_none : (page_size k : ℕ) (q q' : QueueState) (push push' : Option PushUnderWay) → IsOnlyOf k push →
     OthersReady page_size k q q' push push'
 others_none page_size k q q' push push' only j c st apart is = by_state st is
   where
-    not_theirs : (x : Exchange) (p : Option Begun) → IsOnlyOf k p → IsUnderWay j q c x p → ⊥
+    not_theirs : (x : Exchange) (p : Option PushUnderWay) → IsOnlyOf k p → IsUnderWay j q c x p → ⊥
     not_theirs x None only is = is
     not_theirs x (Some b) only is = apart (sym only ∙ is.0)
 
-    by_state : (st : state.ChainState) → IsReady page_size j q push c st → IsReady page_size j q' push' c st
+    by_state : (st : state.ChainState) → CanBePushed page_size j q push c st → CanBePushed page_size j q' push' c st
     by_state (at.Pushing out) is = absurd (not_theirs is.0 push only is.2)
-    by_state (at.HasReply out preserved) is = is
-    by_state (at.Lists out listing) is = is
+    by_state (at.Replied out kept) is = is
+    by_state (at.Listing out listing) is = is
     by_state _ is = tt
 
 -- what each event here keeps of the run, and each call of its handle
-pub record Moves (s after : Machine) (i : Spot) (page_size k : ℕ) (q q' : QueueState) (p : Pop)
-    (push push' : Option Begun) (new : ChainHandle) : Type 0 where
+pub record MovesRun (s after : RunState) (i : QueuePlace) (page_size k : ℕ) (q q' : QueueState) (p : Pop)
+    (push push' : Option PushUnderWay) (new : ChainHandle) : Type 0 where
   pub page : after.page_size ≡ s.page_size
   pub limit : after.limit ≡ s.limit
   pub places : after.places ≡ s.places
-  pub queue : IsQueue after i.number q'
+  pub queue : IsRunQueue after i.number q'
   pub apart : (j : ℕ) → (i.number ≡ j → ⊥) → slice_get after.queues j ≡ slice_get s.queues j
   pub event : SameEventIndex q' q
   pub fits : FitsRun s.places s.limit q p new
@@ -94,7 +94,7 @@ pub record Moves (s after : Machine) (i : Spot) (page_size k : ℕ) (q q' : Queu
 
 may_pop : (limit : ℕ) (q q' : QueueState) (p : Pop) (w : ChainHandle) (st : state.ChainState) → SameEventIndex q' q
     → MayPop limit q p w st → MayPop limit q' p w st
-may_pop limit q q' p w (at.Walking course pop_id walk) same may = (may.0, may.1 ∙ sym same)
+may_pop limit q q' p w (at.Popping course pop_id walk) same may = (may.0, may.1 ∙ sym same)
 may_pop limit q q' p w st same may = tt
 
 -- a handle's pop may carry on at a queue with the same event index
@@ -103,7 +103,7 @@ pub fits_queue : (places : Memory) (limit : ℕ) (q q' : QueueState) (p : Pop) (
 fits_queue places limit q q' p w same fits = (fits.0, fits.1, may_pop limit q q' p w w.state same fits.2)
 
 -- so it may in a run with the same mappings
-fits_run : (s after : Machine) (q : QueueState) (p : Pop) (w : ChainHandle) → after.limit ≡ s.limit →
+fits_run : (s after : RunState) (q : QueueState) (p : Pop) (w : ChainHandle) → after.limit ≡ s.limit →
     after.places ≡ s.places → FitsRun s.places s.limit q p w → FitsRun after.places after.limit q p w
 fits_run s after q p w limit places fits =
     subst (λ (n : ℕ). FitsRun after.places n q p w) (sym limit)
@@ -134,23 +134,23 @@ still_there qs i j q q' r there is = by_case (by_number i j)
     by_case (inr apart) = (r, there_other qs i j (λ _. q') apart ∙ is)
 
 abbrev pub MineIn :
-    Spot → (page_size k : ℕ) → QueueState → Option Begun → InFlightChain → ChainHandle → Type 0
-MineIn i page_size k q push c w = (c.queue ≡ i.number) × IsReady page_size k q push c w.state
+    QueuePlace → (page_size k : ℕ) → QueueState → Option PushUnderWay → InFlightChain → ChainHandle → Type 0
+MineIn i page_size k q push c w = (c.queue ≡ i.number) × CanBePushed page_size k q push c w.state
 
 -- the chains after a call of handle k, which may have one of queue i then
-record Turns (i k : ℕ) (os os' : List Owned) (Mine : InFlightChain → Type 0) : Type 0 where
+record ChangesChains (i k : ℕ) (os os' : List Owned) (Mine : InFlightChain → Type 0) : Type 0 where
   pub from : (j : ℕ) (d : InFlightChain) → In (own j d) os' →
       ((k ≡ j) × Mine d) ⊎ ((k ≡ j → ⊥) × In (own j d) os)
   pub into : (j : ℕ) (d : InFlightChain) → (k ≡ j → ⊥) → In (own j d) os → In (own j d) os'
   pub lost : (d : InFlightChain) → In (lost d) os' → In (lost d) os
   pub numbers : (j : ℕ) → (i ≡ j → ⊥) → number_of j os' ≡ number_of j os
 
-turns : (s after : Machine) (i : Spot) (page_size : ℕ) (q q' : QueueState) (ws : List ChainHandle)
-    (os os' : List Owned) (k : ℕ) (w new : ChainHandle) (p : Pop) (pops : ℕ → Pop) (push push' : Option Begun)
+turns : (s after : RunState) (i : QueuePlace) (page_size : ℕ) (q q' : QueueState) (ws : List ChainHandle)
+    (os os' : List Owned) (k : ℕ) (w new : ChainHandle) (p : Pop) (pops : ℕ → Pop) (push push' : Option PushUnderWay)
     → DrivenAt s i page_size k q ws os pops push → slice_get ws k ≡ Some w
-    → Moves s after i page_size k q q' p push push' new
+    → MovesRun s after i page_size k q q' p push push' new
     → Together after (with_handle ws k new) os'
-    → Turns i.number k os os' (λ d. MineIn i page_size k q' push' d new)
+    → ChangesChains i.number k os os' (λ d. MineIn i page_size k q' push' d new)
     → (is_out new.state ≡ true → (c : InFlightChain) × In (own k c) os')
     → HasInFlight (live_of q') (number_of i.number os')
     → Driven after i.on page_size (with_queue i.queues i.number q') (with_handle ws k new) os' (with_pop pops k p)
@@ -159,7 +159,7 @@ turns s after i page_size q q' ws os os' k w new p pops push push' all there mov
     let was = all.whole in
     record {
       all = together;
-      queues = each_queue i.queues i.number q q' (λ j r. IsQueue after j r) all.there moves.queue
+      queues = each_queue i.queues i.number q q' (λ j r. IsRunQueue after j r) all.there moves.queue
           (λ j r apart is. moves.apart j apart ∙ was.queues j r is);
       page = moves.page ∙ was.page;
       small = subst (λ (n : ℕ). n ≤ 2 ^ 31) (sym moves.limit) was.small;
@@ -182,17 +182,17 @@ turns s after i page_size q q' ws os os' k w new p pops push push' all there mov
     ItsOwn j d st =
         IsItsOwn i.on page_size (with_queue i.queues i.number q') (with_push i.pushes i.number push') j d st
 
-    here : (d : InFlightChain) (n : ℕ) → i.number ≡ n → IsReady page_size k q' push' d new.state →
+    here : (d : InFlightChain) (n : ℕ) → i.number ≡ n → CanBePushed page_size k q' push' d new.state →
         (slice_get i.on k ≡ Some n) × (r : QueueState)
         × (slice_get (with_queue i.queues i.number q') n ≡ Some r)
-        × IsReady page_size k r (with_push i.pushes i.number push' n) d new.state
+        × CanBePushed page_size k r (with_push i.pushes i.number push' n) d new.state
     here d n same ready = (
       all.number ∙ ap (λ (m : ℕ). Some m) same,
       q',
       there_same i.queues i.number n (λ _. q') q same
           (ap (λ (m : ℕ). slice_get i.queues m) (sym same) ∙ all.there),
-      subst (λ (m : ℕ). IsReady page_size k q' (with_push i.pushes i.number push' m) d new.state) same
-          (subst (λ (b : Option Begun). IsReady page_size k q' b d new.state)
+      subst (λ (m : ℕ). CanBePushed page_size k q' (with_push i.pushes i.number push' m) d new.state) same
+          (subst (λ (b : Option PushUnderWay). CanBePushed page_size k q' b d new.state)
           (sym (push_here i.pushes i.number push')) ready),
     )
 
@@ -203,22 +203,22 @@ turns s after i page_size q q' ws os os' k w new p pops push push' all there mov
         let r_is : its.1 ≡ q =
         same_some its.1 q (sym its.2 ∙ ap (λ (m : ℕ). slice_get i.queues m) (sym same) ∙ all.there) in
         let push_is : i.pushes d.queue ≡ push = ap i.pushes (sym same) ∙ all.under in
-        let ready : IsReady page_size j q push d v.state =
-        subst (λ (b : Option Begun). IsReady page_size j q b d v.state) push_is
-        (subst (λ (r : QueueState). IsReady page_size j r (i.pushes d.queue) d v.state) r_is its.3) in (
+        let ready : CanBePushed page_size j q push d v.state =
+        subst (λ (b : Option PushUnderWay). CanBePushed page_size j q b d v.state) push_is
+        (subst (λ (r : QueueState). CanBePushed page_size j r (i.pushes d.queue) d v.state) r_is its.3) in (
           its.0,
           q',
           there_same i.queues i.number d.queue (λ _. q') q same
               (ap (λ (m : ℕ). slice_get i.queues m) (sym same) ∙ all.there),
-          subst (λ (m : ℕ). IsReady page_size j q' (with_push i.pushes i.number push' m) d v.state) same
-              (subst (λ (b : Option Begun). IsReady page_size j q' b d v.state)
+          subst (λ (m : ℕ). CanBePushed page_size j q' (with_push i.pushes i.number push' m) d v.state) same
+              (subst (λ (b : Option PushUnderWay). CanBePushed page_size j q' b d v.state)
               (sym (push_here i.pushes i.number push')) (moves.others j d v.state apart ready)),
         )
     theirs j v d apart its (inr other) = (
       its.0,
       its.1,
       there_other i.queues i.number d.queue (λ _. q') other ∙ its.2,
-      subst (λ (b : Option Begun). IsReady page_size j its.1 b d v.state)
+      subst (λ (b : Option PushUnderWay). CanBePushed page_size j its.1 b d v.state)
           (sym (push_apart i.pushes i.number d.queue push' other)) its.3,
     )
 
@@ -278,12 +278,12 @@ turns s after i page_size q q' ws os os' k w new p pops push push' all there mov
             n r is refl))
 
 -- handle k has its chain in another phase
-pub keeps : (s after : Machine) (i : Spot) (page_size : ℕ) (q q' : QueueState) (ws : List ChainHandle)
+pub keeps : (s after : RunState) (i : QueuePlace) (page_size : ℕ) (q q' : QueueState) (ws : List ChainHandle)
     (ob oh : List Owned) (k : ℕ) (w new : ChainHandle) (c c' : InFlightChain) (p : Pop) (pops : ℕ → Pop)
-    (push push' : Option Begun)
+    (push push' : Option PushUnderWay)
     → DrivenAt s i page_size k q ws (ob ++ own k c ∷ oh) pops push → slice_get ws k ≡ Some w →
-    Moves s after i page_size k q q' p push push' new → CountsSame (live_of q) (live_of q')
-    → after.chains ≡ chains_of ob ++ c' ∷ chains_of oh → HoldsChain s.page_size c' new →
+    MovesRun s after i page_size k q q' p push push' new → CountsSame (live_of q) (live_of q')
+    → after.chains ≡ chains_of ob ++ c' ∷ chains_of oh → HoldsInFlight s.page_size c' new →
     MineIn i page_size k q' push' c' new
     → Driven after i.on page_size (with_queue i.queues i.number q') (with_handle ws k new) (ob ++ own k c' ∷ oh)
     (with_pop pops k p) (with_push i.pushes i.number push')
@@ -328,11 +328,11 @@ pub not_free : (b : Bool) → b ≡ true → b ≡ false → ⊥
 not_free b t f = cc
 
 -- handle k has none anymore
-pub leaves : (s after : Machine) (i : Spot) (page_size : ℕ) (q q' : QueueState) (ws : List ChainHandle)
+pub leaves : (s after : RunState) (i : QueuePlace) (page_size : ℕ) (q q' : QueueState) (ws : List ChainHandle)
     (ob oh : List Owned) (k : ℕ) (w new : ChainHandle) (c : InFlightChain) (p : Pop) (pops : ℕ → Pop)
-    (push push' : Option Begun)
+    (push push' : Option PushUnderWay)
     → DrivenAt s i page_size k q ws (ob ++ own k c ∷ oh) pops push → slice_get ws k ≡ Some w →
-    Moves s after i page_size k q q' p push push' new → CountsLess (live_of q) (live_of q')
+    MovesRun s after i page_size k q q' p push push' new → CountsLess (live_of q) (live_of q')
     → after.chains ≡ chains_of ob ++ chains_of oh → is_out new.state ≡ false
     → Driven after i.on page_size (with_queue i.queues i.number q') (with_handle ws k new) (ob ++ oh)
     (with_pop pops k p) (with_push i.pushes i.number push')
@@ -360,8 +360,8 @@ leaves s after i page_size q q' ws ob oh k w new c p pops push push' all there m
 
 -- ---- calls one behind another
 
-abbrev pub Seen : Type 0
-Seen = Called × Unseen
+abbrev pub CallsSeen : Type 0
+CallsSeen = Called × Unseen
 
 pub none_some : {A : Type 0} (x : A) (xs : List A) → [] ≡ x ∷ xs → ⊥
 none_some x xs e = cc
@@ -373,14 +373,14 @@ pub same_rest : {A : Type 0} (x y : A) (xs ys : List A) → x ∷ xs ≡ y ∷ y
 same_rest x y xs ys e = cc
 
 -- calls are those of both parts
-record Parted (zs : List Seen) (calls more : List Called) : Type 0 where
-  pub front : List Seen
-  pub behind : List Seen
+record Parted (zs : List CallsSeen) (calls more : List Called) : Type 0 where
+  pub front : List CallsSeen
+  pub behind : List CallsSeen
   pub all : zs ≡ front ++ behind
   pub first : seen_of front ≡ calls
   pub later : seen_of behind ≡ more
 
-parted : (zs : List Seen) (calls more : List Called) → seen_of zs ≡ calls ++ more → Parted zs calls more
+parted : (zs : List CallsSeen) (calls more : List Called) → seen_of zs ≡ calls ++ more → Parted zs calls more
 parted zs [] more is = record { front = []; behind = zs; all = refl; first = refl; later = is }
 parted [] (c ∷ calls) more is = absurd (none_some c (calls ++ more) is)
 parted (z ∷ zs) (c ∷ calls) more is =
@@ -389,17 +389,17 @@ parted (z ∷ zs) (c ∷ calls) more is =
     record {
       front = z ∷ r.front;
       behind = r.behind;
-      all = ap (λ (l : List Seen). z ∷ l) r.all;
+      all = ap (λ (l : List CallsSeen). z ∷ l) r.all;
       first = ap (λ (x : Called). x ∷ seen_of r.front) one ∙ ap (λ (l : List Called). c ∷ l) r.first;
       later = r.later;
     }
 
-reports_both : (on : List ℕ) (page_size : ℕ) (d mid end : Desk) (xs ys : List Seen) (es later : List LiveEvent)
-    → ReportsAll on page_size d xs es mid → ReportsAll on page_size mid ys later end
-    → ReportsAll on page_size d (xs ++ ys) (es ++ later) end
+reports_both : (on : List ℕ) (page_size : ℕ) (d mid end : Driver) (xs ys : List CallsSeen) (es later : List LiveEvent)
+    → EventsOfAll on page_size d xs es mid → EventsOfAll on page_size mid ys later end
+    → EventsOfAll on page_size d (xs ++ ys) (es ++ later) end
 reports_both on page_size d mid end [] ys es later first more =
-    subst (λ (k : Desk). ReportsAll on page_size k ys (es ++ later) end) first.1
-    (subst (λ (l : List LiveEvent). ReportsAll on page_size mid ys (l ++ later) end) (sym first.0) more)
+    subst (λ (k : Driver). EventsOfAll on page_size k ys (es ++ later) end) first.1
+    (subst (λ (l : List LiveEvent). EventsOfAll on page_size mid ys (l ++ later) end) (sym first.0) more)
 reports_both on page_size d mid end (x ∷ xs) ys es later first more = (
   first.0,
   first.1 ++ later,
@@ -419,9 +419,9 @@ carries_on on page_size one two three q q' q'' calls more first later zs is s os
     let p = parted zs calls more is in
     let a = first p.front p.first s os pops pushes all in
     let b = later p.behind p.later a.1 a.2 a.3 a.4 a.6 in
-    let d : Desk = desk s one q os pops pushes in
-    let mid : Desk = desk a.1 two q' a.2 a.3 a.4 in
-    let end : Desk = desk b.1 three q'' b.2 b.3 b.4 in (
+    let d : Driver = driver s one q os pops pushes in
+    let mid : Driver = driver a.1 two q' a.2 a.3 a.4 in
+    let end : Driver = driver b.1 three q'' b.2 b.3 b.4 in (
       a.0 ++ b.0,
       b.1,
       b.2,
@@ -429,7 +429,7 @@ carries_on on page_size one two three q q' q'' calls more first later zs is s os
       b.4,
       joined any_files s a.1 b.1 a.0 b.0 a.5 b.5,
       b.6,
-      subst (λ (l : List Seen). ReportsAll on page_size d l (a.0 ++ b.0) end) (sym p.all)
+      subst (λ (l : List CallsSeen). EventsOfAll on page_size d l (a.0 ++ b.0) end) (sym p.all)
           (reports_both on page_size d mid end p.front p.behind a.0 b.0 a.7 b.7),
     )
 
@@ -439,29 +439,29 @@ pub held_out : (page_size : ℕ) (c : InFlightChain) (p : Phase) (st : state.Cha
     IsHeldIn page_size c p st session →
     is_out st ≡ true
 held_out page_size c (PoppedFaulty why) at.Free session held = absurd held
-held_out page_size c p (at.Taken out) session held = refl
-held_out page_size c p (at.Waits out w) session held = refl
-held_out page_size c p (at.Lists out l) session held = refl
-held_out page_size c p (at.HasReply out preserved) session held = refl
+held_out page_size c p (at.Popped out) session held = refl
+held_out page_size c p (at.Decoded out w) session held = refl
+held_out page_size c p (at.Listing out l) session held = refl
+held_out page_size c p (at.Replied out kept) session held = refl
 held_out page_size c p (at.Pushing out) session held = refl
 held_out page_size c _ _ session held = absurd held
 
 -- what a handle has is its chain of the run
-pub record Has (s : Machine) (i : Spot) (page_size : ℕ) (q : QueueState) (ws : List ChainHandle)
-    (os : List Owned) (k : ℕ) (w : ChainHandle) (pops : ℕ → Pop) (push : Option Begun) : Type 0 where
+pub record HasItsChain (s : RunState) (i : QueuePlace) (page_size : ℕ) (q : QueueState) (ws : List ChainHandle)
+    (os : List Owned) (k : ℕ) (w : ChainHandle) (pops : ℕ → Pop) (push : Option PushUnderWay) : Type 0 where
   pub c : InFlightChain
   pub is_in : In (own k c) os
-  pub mine : (c.queue ≡ i.number) × IsReady page_size k q push c w.state
+  pub mine : (c.queue ≡ i.number) × CanBePushed page_size k q push c w.state
   pub ob : List Owned
   pub oh : List Owned
   pub driven : DrivenAt s i page_size k q ws (ob ++ own k c ∷ oh) pops push
   pub chains : s.chains ≡ chains_of ob ++ c ∷ chains_of oh
-  pub holds : HoldsChain s.page_size c w
+  pub holds : HoldsInFlight s.page_size c w
 
-pub has_own : (s : Machine) (i : Spot) (page_size : ℕ) (q : QueueState) (ws : List ChainHandle)
-    (os : List Owned) (k : ℕ) (w : ChainHandle) (pops : ℕ → Pop) (push : Option Begun)
+pub has_own : (s : RunState) (i : QueuePlace) (page_size : ℕ) (q : QueueState) (ws : List ChainHandle)
+    (os : List Owned) (k : ℕ) (w : ChainHandle) (pops : ℕ → Pop) (push : Option PushUnderWay)
     → DrivenAt s i page_size k q ws os pops push → slice_get ws k ≡ Some w → (c : InFlightChain) × In (own k c) os →
-    Has s i page_size q ws os k w pops push
+    HasItsChain s i page_size q ws os k w pops push
 has_own s i page_size q ws os k w pops push all there (c, is) =
     let r = split os (own k c) is in
     let driven : DrivenAt s i page_size k q ws (r.0 ++ own k c ∷ r.1) pops push =
@@ -491,8 +491,8 @@ none_of k (o ∷ os) none = (isnt k o os none o.handle refl, none_of k os (λ c 
         (inl (ap (λ (h : Option ℕ). record { handle = h; chain = o.chain })
         (sym (ap (λ (n : ℕ). Some n) same) ∙ sym is)))
 
-has_none : (s : Machine) (i : Spot) (page_size : ℕ) (q : QueueState) (ws : List ChainHandle) (os : List Owned)
-    (k : ℕ) (w : ChainHandle) (pops : ℕ → Pop) (push : Option Begun)
+has_none : (s : RunState) (i : QueuePlace) (page_size : ℕ) (q : QueueState) (ws : List ChainHandle) (os : List Owned)
+    (k : ℕ) (w : ChainHandle) (pops : ℕ → Pop) (push : Option PushUnderWay)
     → DrivenAt s i page_size k q ws os pops push → slice_get ws k ≡ Some w → is_out w.state ≡ false →
     (c : InFlightChain) →
     In (own k c) os → ⊥
@@ -501,10 +501,10 @@ has_none s i page_size q ws os k w pops push all there free c is =
     not_free (is_out w.state) (held_out s.page_size has.c has.c.phase w.state w.session has.holds) free
 
 -- handle k has no chain, before and after
-pub idles : (s after : Machine) (i : Spot) (page_size : ℕ) (q q' : QueueState) (ws : List ChainHandle)
-    (os : List Owned) (k : ℕ) (w new : ChainHandle) (p : Pop) (pops : ℕ → Pop) (push push' : Option Begun)
+pub idles : (s after : RunState) (i : QueuePlace) (page_size : ℕ) (q q' : QueueState) (ws : List ChainHandle)
+    (os : List Owned) (k : ℕ) (w new : ChainHandle) (p : Pop) (pops : ℕ → Pop) (push push' : Option PushUnderWay)
     → DrivenAt s i page_size k q ws os pops push → slice_get ws k ≡ Some w →
-    Moves s after i page_size k q q' p push push' new → CountsSame (live_of q) (live_of q') →
+    MovesRun s after i page_size k q q' p push push' new → CountsSame (live_of q) (live_of q') →
     after.chains ≡ s.chains
     → is_out w.state ≡ false → is_out new.state ≡ false →
     Driven after i.on page_size (with_queue i.queues i.number q') (with_handle ws k new) os (with_pop pops k p)
@@ -541,13 +541,13 @@ in_front [] x y m = absurd m
 in_front (o ∷ os) x y (inl e) = inl e
 in_front (o ∷ os) x y (inr m) = inr (in_front os x y m)
 
-pub joins : (s after : Machine) (i : Spot) (page_size : ℕ) (q q' : QueueState) (ws : List ChainHandle)
+pub joins : (s after : RunState) (i : QueuePlace) (page_size : ℕ) (q q' : QueueState) (ws : List ChainHandle)
     (os : List Owned) (k : ℕ) (w new : ChainHandle) (c : InFlightChain) (p : Pop) (pops : ℕ → Pop)
-    (push push' : Option Begun)
+    (push push' : Option PushUnderWay)
     → DrivenAt s i page_size k q ws os pops push → slice_get ws k ≡ Some w →
-    Moves s after i page_size k q q' p push push' new → CountsMore (live_of q) (live_of q') →
+    MovesRun s after i page_size k q q' p push push' new → CountsMore (live_of q) (live_of q') →
     after.chains ≡ s.chains ++ c ∷ []
-    → is_out w.state ≡ false → HoldsChain s.page_size c new → MineIn i page_size k q' push' c new
+    → is_out w.state ≡ false → HoldsInFlight s.page_size c new → MineIn i page_size k q' push' c new
     → Driven after i.on page_size (with_queue i.queues i.number q') (with_handle ws k new) (os ++ own k c ∷ [])
     (with_pop pops k p) (with_push i.pushes i.number push')
 joins s after i page_size q q' ws os k w new c p pops push push' all there moves counts chains free holds mine =

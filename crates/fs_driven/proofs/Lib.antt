@@ -19,6 +19,6 @@ pub mod Pops
 pub mod Remaps
 pub mod Resets
 pub mod Rest
-pub mod Spots
+pub mod QueuePlaces
 pub mod Served
 pub mod DriverServed

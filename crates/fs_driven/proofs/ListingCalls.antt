@@ -10,15 +10,15 @@ use Rattle.server_phases.specs.Gathering.{Brought, entries_of, is_looked_up, nod
 use Rattle.server_meanings.specs.Listings.{readdir_call}
 use Rattle.plain_machine.specs.Step.{Calls, EachSuits}
 use Rattle.live_machine.specs.Live.{Happens, InFlightChain, LiveRun, Phase, ReceivesAnswer, after_answer, asked_chain}
-use Rattle.fs_chain.specs.Holds.{Machine, any_files}
-use Rattle.fs_chain.specs.HoldsListings.{EndsListing, FailsListing, HasListed, HoldsListing, IsLeftOut, MayFail, calls_left_out}
+use Rattle.fs_chain.specs.Holds.{RunState, any_files}
+use Rattle.fs_chain.specs.HoldsListings.{EndsListingInRun, FailsListingInRun, HasListed, HoldsListing, IsLeftOut, MayFail, calls_left_out}
 use Rattle.fs_chain.specs.ListingCalls.{Ending, EndsThere, FailsAt, FullAt, Unreadable, all_looked_up}
 use Rattle.fs_chain.specs.ListingCalls.{calls_so_far, listing_calls, looked_up, node_back, unreadable_calls}
 use Rattle.fs_chain.specs.declared.chain_handle.ChainHandle.{ChainHandle}
 use Rattle.fs_chain.specs.declared.error.ChainError.{ChainError}
-use Rattle.fs_chain.specs.declared.listing.Added.{Added}
-use Rattle.fs_chain.specs.declared.listing.Added.TheVariants as added
-use Rattle.fs_driven.specs.Adding.{CameTo, EndsSo, HasNumber}
+use Rattle.fs_chain.specs.declared.listing.AddOutcome.{AddOutcome}
+use Rattle.fs_chain.specs.declared.listing.AddOutcome.TheVariants as added
+use Rattle.fs_driven.specs.Adding.{HasGathered, EndsSo, HasNumber}
 use Rattle.fs_driven.specs.Entries.{answers_of, ending_of, errno_after}
 use Rattle.fs_chain.proofs.HoldsListed.{leaves_out, looks_up, reads_directory}
 use Rattle.fs_driven.proofs.Listings.{at_calls, errno_suits}
@@ -26,11 +26,11 @@ use Rattle.fs_driven.proofs.Listings.{at_calls, errno_suits}
 -- ---- each call of a listing is answered
 
 -- the run as the calls of one chain leave it
-abbrev pub moved : Machine → List InFlightChain → (options : ℕ) → Machine
+abbrev pub moved : RunState → List InFlightChain → (options : ℕ) → RunState
 moved s chains options = record s { chains = chains; options = options; files = tt }
 
 -- each of a chain's calls can be answered behind the others
-abbrev EachIs : Machine → (before behind : List InFlightChain) → InFlightChain → (request : List ℕ) → (options : ℕ) →
+abbrev EachIs : RunState → (before behind : List InFlightChain) → InFlightChain → (request : List ℕ) → (options : ℕ) →
     Calls → Type 0
 EachIs s before behind c request options all =
     (chains : List InFlightChain) (now : ℕ) (earlier later : Calls) (call : FileCall) (answer : FileAnswer) →
@@ -42,24 +42,24 @@ EachIs s before behind c request options all =
     (earlier ++ (call, answer) ∷ []) tt)
 
 -- then they are, one behind another
-abbrev pub Answered : Machine → (before behind : List InFlightChain) → InFlightChain → (request : List ℕ) → (options : ℕ) →
+abbrev pub AnswersCalls : RunState → (before behind : List InFlightChain) → InFlightChain → (request : List ℕ) → (options : ℕ) →
     (chains : List InFlightChain) → (now : ℕ) → (earlier later : Calls) → Type 0
-Answered s before behind c request options chains now earlier later =
+AnswersCalls s before behind c request options chains now earlier later =
     (chains' : List InFlightChain)
     × (now' : ℕ)
     × LiveRun any_files (moved s chains now) (answers_of c request options earlier later) (moved s chains' now')
     × (chains' ≡ before ++ asked_chain c request options (earlier ++ later) ∷ behind)
 
-answered_run : (s : Machine) (before behind : List InFlightChain) (c : InFlightChain) (request : List ℕ) (options : ℕ)
+answered_run : (s : RunState) (before behind : List InFlightChain) (c : InFlightChain) (request : List ℕ) (options : ℕ)
     (all : Calls) → EachIs s before behind c request options all
     → (chains : List InFlightChain) (now : ℕ) (earlier later : Calls) → all ≡ earlier ++ later
     → chains ≡ before ++ asked_chain c request options earlier ∷ behind → EachSuits later
-    → Answered s before behind c request options chains now earlier later
+    → AnswersCalls s before behind c request options chains now earlier later
 answered_run s before behind c request options all each chains now earlier [] are out suit =
     (chains, now, refl, out ∙ ap (λ (l : Calls). before ++ asked_chain c request options l ∷ behind) (sym (append-nil earlier)))
 answered_run s before behind c request options all each chains now earlier (step ∷ later) are out suit =
     let c' : InFlightChain = asked_chain c request options earlier in
-    let next : Machine = after_answer (moved s chains now) before behind c' request options (earlier ++ step ∷ []) tt in
+    let next : RunState = after_answer (moved s chains now) before behind c' request options (earlier ++ step ∷ []) tt in
     let one = each chains now earlier later step.0 step.1 out are suit.0 in
     let more = answered_run s before behind c request options all each next.chains next.options (earlier ++ step ∷ [])
     later (are ∙ sym (append_assoc earlier (step ∷ []) later)) refl suit.1 in (
@@ -116,7 +116,7 @@ left_calls call b es e others =
     (append_assoc (all_looked_up call b es) (looked_up call b e.0 (HasEntry e.1)) (node_back call b e))
 
 -- each call up to the directory's end, or to an entry that isn't added
-each_there : (s : Machine) (before behind : List InFlightChain) (c : InFlightChain) (es : List Brought) (list : List ℕ)
+each_there : (s : RunState) (before behind : List InFlightChain) (c : InFlightChain) (es : List Brought) (list : List ℕ)
     (w : ChainHandle) (h : HoldsListing s.page_size c es [] list w)
     → EachIs s before behind c h.request h.options
     ((readdir_call h.asked, Entries (entries_of es)) ∷ all_looked_up (readdir_call h.asked) h.asked.with_nodes es)
@@ -126,8 +126,8 @@ each_there s before behind c es list w h chains now earlier later call answer ou
     later call answer out (at_calls s.page_size c es list w h earlier)
     (so_far (readdir_call h.asked) h.asked.with_nodes es ∙ are) fits).0
 
-each_left : (s : Machine) (before behind : List InFlightChain) (c : InFlightChain) (es : List Brought) (list : List ℕ)
-    (w : ChainHandle) (h : HoldsListing s.page_size c es [] list w) (e : Brought) (others : List Listed) (why : Added)
+each_left : (s : RunState) (before behind : List InFlightChain) (c : InFlightChain) (es : List Brought) (list : List ℕ)
+    (w : ChainHandle) (h : HoldsListing s.page_size c es [] list w) (e : Brought) (others : List Listed) (why : AddOutcome)
     → IsLeftOut why h.listing list e
     → EachIs s before behind c h.request h.options
     ((readdir_call h.asked, Entries (entries_of es ++ e.0 ∷ others))
@@ -156,29 +156,29 @@ calls_by page_size c es list w h ending =
     listing_calls (readdir_call h.asked) h.asked.with_nodes es ending
 
 -- they are answered, and the handle has the reply
-pub record ListedSo (s : Machine) (before behind : List InFlightChain) (c : InFlightChain) (es : List Brought)
+pub record ListedSo (s : RunState) (before behind : List InFlightChain) (c : InFlightChain) (es : List Brought)
     (ending : Ending) (list : List ℕ) (w new : ChainHandle) (len : ℕ) : Type 0 where
   pub h : HoldsListing s.page_size c es [] list w
-  pub run : Answered s before behind c h.request h.options s.chains s.options []
+  pub run : AnswersCalls s before behind c h.request h.options s.chains s.options []
       (calls_by s.page_size c es list w h ending)
   pub listed : HasListed s.page_size
       (asked_chain c h.request h.options (calls_by s.page_size c es list w h ending))
       (calls_by s.page_size c es list w h ending) list h.request h.options h.out len new
 
 -- the run of calls that suit their answers
-run_of : (s : Machine) (before behind : List InFlightChain) (c : InFlightChain) (es : List Brought) (list : List ℕ)
+run_of : (s : RunState) (before behind : List InFlightChain) (c : InFlightChain) (es : List Brought) (list : List ℕ)
     (w : ChainHandle) (h : HoldsListing s.page_size c es [] list w) (all : Calls)
     → s.chains ≡ before ++ c ∷ behind
     → EachIs s before behind c h.request h.options all → EachSuits all
-    → Answered s before behind c h.request h.options s.chains s.options [] all
+    → AnswersCalls s before behind c h.request h.options s.chains s.options [] all
 run_of s before behind c es list w h all out each suit =
     answered_run s before behind c h.request h.options all each s.chains s.options [] all refl
     (out ∙ ap (λ (x : InFlightChain). before ++ x ∷ behind) (sym (asked_first s.page_size c es list w h))) suit
 
-there_run : (s : Machine) (before behind : List InFlightChain) (c : InFlightChain) (es : List Brought) (list : List ℕ)
+there_run : (s : RunState) (before behind : List InFlightChain) (c : InFlightChain) (es : List Brought) (list : List ℕ)
     (w : ChainHandle) (h : HoldsListing s.page_size c es [] list w) → s.chains ≡ before ++ c ∷ behind
     → AllByRecursion HasNumber es
-    → Answered s before behind c h.request h.options s.chains s.options []
+    → AnswersCalls s before behind c h.request h.options s.chains s.options []
     ((readdir_call h.asked, Entries (entries_of es)) ∷ all_looked_up (readdir_call h.asked) h.asked.with_nodes es)
 there_run s before behind c es list w h out numbers =
     run_of s before behind c es list w h
@@ -186,25 +186,25 @@ there_run s before behind c es list w h out numbers =
     (each_there s before behind c es list w h)
     (refl, looked_suit h.asked.context h.asked.node h.asked.handle h.asked.size h.asked.offset h.asked.with_nodes es numbers)
 
-alone_run : (s : Machine) (before behind : List InFlightChain) (c : InFlightChain) (es : List Brought) (list : List ℕ)
+alone_run : (s : RunState) (before behind : List InFlightChain) (c : InFlightChain) (es : List Brought) (list : List ℕ)
     (w : ChainHandle) (h : HoldsListing s.page_size c es [] list w) → s.chains ≡ before ++ c ∷ behind
     → (errno : ℕ) → 1 ≤ errno → errno ≤ 4095
-    → Answered s before behind c h.request h.options s.chains s.options [] ((readdir_call h.asked, Failed errno) ∷ [])
+    → AnswersCalls s before behind c h.request h.options s.chains s.options [] ((readdir_call h.asked, Failed errno) ∷ [])
 unfolding at_calls
 alone_run s before behind c es list w h out errno low high =
     let c' : InFlightChain = asked_chain c h.request h.options [] in
     let there : s.chains ≡ before ++ c' ∷ behind =
     out ∙ ap (λ (x : InFlightChain). before ++ x ∷ behind) (sym (asked_first s.page_size c es list w h)) in
     let call : FileCall = readdir_call h.asked in
-    let next : Machine = after_answer s before behind c' h.request h.options ((call, Failed errno) ∷ []) tt in
+    let next : RunState = after_answer s before behind c' h.request h.options ((call, Failed errno) ∷ []) tt in
     let one = reads_directory s before behind c' es list w (Failed errno) there (at_calls s.page_size c es list w h [])
     (errno_suits errno low high) in
     (next.chains, next.options, (next, one.0, refl), refl)
 
-left_run : (s : Machine) (before behind : List InFlightChain) (c : InFlightChain) (es : List Brought) (list : List ℕ)
-    (w : ChainHandle) (h : HoldsListing s.page_size c es [] list w) (e : Brought) (others : List Listed) (why : Added)
+left_run : (s : RunState) (before behind : List InFlightChain) (c : InFlightChain) (es : List Brought) (list : List ℕ)
+    (w : ChainHandle) (h : HoldsListing s.page_size c es [] list w) (e : Brought) (others : List Listed) (why : AddOutcome)
     → s.chains ≡ before ++ c ∷ behind → AllByRecursion HasNumber es → HasNumber e → IsLeftOut why h.listing list e
-    → Answered s before behind c h.request h.options s.chains s.options []
+    → AnswersCalls s before behind c h.request h.options s.chains s.options []
     ((readdir_call h.asked, Entries (entries_of es ++ e.0 ∷ others))
     ∷ (all_looked_up (readdir_call h.asked) h.asked.with_nodes es
     ++ (looked_up (readdir_call h.asked) h.asked.with_nodes e.0 (HasEntry e.1)
@@ -227,31 +227,31 @@ left_run s before behind c es list w h e others why out numbers number left =
 
 -- ---- by the result of the last entry
 
-unreadable_so : (s : Machine) (before behind : List InFlightChain) (c : InFlightChain) (es : List Brought) (list : List ℕ)
-    (w new : ChainHandle) (serial len errno : ℕ) (h : HoldsListing s.page_size c es [] list w)
-    → s.chains ≡ before ++ c ∷ behind → AllByRecursion HasNumber es → EndsSo (Some errno) w new serial (Ok len)
+unreadable_so : (s : RunState) (before behind : List InFlightChain) (c : InFlightChain) (es : List Brought) (list : List ℕ)
+    (w new : ChainHandle) (ticket len errno : ℕ) (h : HoldsListing s.page_size c es [] list w)
+    → s.chains ≡ before ++ c ∷ behind → AllByRecursion HasNumber es → EndsSo (Some errno) w new ticket (Ok len)
     → ListedSo s before behind c es (Unreadable errno) list w new len
-unfolding at_calls FailsListing
-unreadable_so s before behind c es list w new serial len errno h out numbers ends =
+unfolding at_calls FailsListingInRun
+unreadable_so s before behind c es list w new ticket len errno h out numbers ends =
     let calls = calls_by s.page_size c es list w h (Unreadable errno) in
     record {
       h = h;
-      run = unread_by (λ (l : Calls). Answered s before behind c h.request h.options s.chains s.options [] l)
+      run = unread_by (λ (l : Calls). AnswersCalls s before behind c h.request h.options s.chains s.options [] l)
           (readdir_call h.asked) h.asked.with_nodes es errno (there_run s before behind c es list w h out numbers)
           (alone_run s before behind c es list w h out errno ends.4 ends.5);
       listed = ends.3 s.page_size (asked_chain c h.request h.options calls) es (Unreadable errno) calls list
           (at_calls s.page_size c es list w h calls) refl refl;
     }
 
-fails_so : (s : Machine) (before behind : List InFlightChain) (c : InFlightChain) (es : List Brought) (list : List ℕ)
-    (w new : ChainHandle) (serial len errno : ℕ) (e : Brought) (others : List Listed) (why : Added)
+fails_so : (s : RunState) (before behind : List InFlightChain) (c : InFlightChain) (es : List Brought) (list : List ℕ)
+    (w new : ChainHandle) (ticket len errno : ℕ) (e : Brought) (others : List Listed) (why : AddOutcome)
     (h : HoldsListing s.page_size c es [] list w)
     → s.chains ≡ before ++ c ∷ behind → AllByRecursion HasNumber es → HasNumber e → IsLeftOut why h.listing list e
     → MayFail errno h.listing list (FailsAt e others errno)
-    → EndsSo (Some errno) w new serial (Ok len)
+    → EndsSo (Some errno) w new ticket (Ok len)
     → ListedSo s before behind c es (FailsAt e others errno) list w new len
-unfolding at_calls FailsListing
-fails_so s before behind c es list w new serial len errno e others why h out numbers number left may ends =
+unfolding at_calls FailsListingInRun
+fails_so s before behind c es list w new ticket len errno e others why h out numbers number left may ends =
     let calls = calls_by s.page_size c es list w h (FailsAt e others errno) in
     record {
       h = h;
@@ -260,13 +260,13 @@ fails_so s before behind c es list w new serial len errno e others why h out num
           (at_calls s.page_size c es list w h calls) may refl;
     }
 
-pub came_to_end : (s : Machine) (before behind : List InFlightChain) (c : InFlightChain) (es left : List Brought)
-    (reported : Result Added ChainError) (failure : Option ℕ) (list : List ℕ) (w new : ChainHandle) (serial len : ℕ)
-    → s.chains ≡ before ++ c ∷ behind → CameTo s.page_size c es left list reported w
-    → EndsSo (errno_after reported failure) w new serial (Ok len)
-    → ListedSo s before behind c es (ending_of reported left failure) list w new len
-unfolding at_calls EndsListing
-came_to_end s before behind c es left (Ok added.In) None list w new serial len out came ends =
+pub came_to_end : (s : RunState) (before behind : List InFlightChain) (c : InFlightChain) (es left : List Brought)
+    (result : Result AddOutcome ChainError) (failure : Option ℕ) (list : List ℕ) (w new : ChainHandle) (ticket len : ℕ)
+    → s.chains ≡ before ++ c ∷ behind → HasGathered s.page_size c es left list result w
+    → EndsSo (errno_after result failure) w new ticket (Ok len)
+    → ListedSo s before behind c es (ending_of result left failure) list w new len
+unfolding at_calls EndsListingInRun
+came_to_end s before behind c es left (Ok added.In) None list w new ticket len out came ends =
     let h = came.0 in
     let calls = calls_by s.page_size c es list w h EndsThere in
     record {
@@ -275,9 +275,9 @@ came_to_end s before behind c es left (Ok added.In) None list w new serial len o
       listed = ends.3 s.page_size (asked_chain c h.request h.options calls) es EndsThere calls list
           (at_calls s.page_size c es list w h calls) tt refl;
     }
-came_to_end s before behind c es left (Ok added.In) (Some errno) list w new serial len out came ends =
-    unreadable_so s before behind c es list w new serial len errno came.0 out came.1 ends
-came_to_end s before behind c es (e ∷ left) (Ok added.Full) failure list w new serial len out came ends =
+came_to_end s before behind c es left (Ok added.In) (Some errno) list w new ticket len out came ends =
+    unreadable_so s before behind c es list w new ticket len errno came.0 out came.1 ends
+came_to_end s before behind c es (e ∷ left) (Ok added.Full) failure list w new ticket len out came ends =
     let h = came.0 in
     let calls = calls_by s.page_size c es list w h (FullAt e (entries_of left)) in
     record {
@@ -286,12 +286,12 @@ came_to_end s before behind c es (e ∷ left) (Ok added.Full) failure list w new
       listed = ends.3 s.page_size (asked_chain c h.request h.options calls) es (FullAt e (entries_of left)) calls list
           (at_calls s.page_size c es list w h calls) came.2 refl;
     }
-came_to_end s before behind c es (e ∷ left) (Ok added.NoRoom) failure list w new serial len out came ends =
-    fails_so s before behind c es list w new serial len EIO e (entries_of left) added.NoRoom came.0 out came.1 came.3
+came_to_end s before behind c es (e ∷ left) (Ok added.NoRoom) failure list w new ticket len out came ends =
+    fails_so s before behind c es list w new ticket len EIO e (entries_of left) added.NoRoom came.0 out came.1 came.3
     came.2 (refl, came.2) ends
-came_to_end s before behind c es (e ∷ left) (Ok added.TooLong) failure list w new serial len out came ends =
-    fails_so s before behind c es list w new serial len EOVERFLOW e (entries_of left) added.TooLong came.0 out came.1
+came_to_end s before behind c es (e ∷ left) (Ok added.TooLong) failure list w new ticket len out came ends =
+    fails_so s before behind c es list w new ticket len EOVERFLOW e (entries_of left) added.TooLong came.0 out came.1
     came.3 came.2 (refl, came.2) ends
-came_to_end s before behind c es (e ∷ left) (Err x) failure list w new serial len out came ends =
-    unreadable_so s before behind c es list w new serial len EIO came.0 out came.1 ends
-came_to_end s before behind c es [] _ failure list w new serial len out came ends = absurd came
+came_to_end s before behind c es (e ∷ left) (Err x) failure list w new ticket len out came ends =
+    unreadable_so s before behind c es list w new ticket len EIO came.0 out came.1 ends
+came_to_end s before behind c es [] _ failure list w new ticket len out came ends = absurd came

@@ -15,18 +15,18 @@ use Rattle.live_machine.specs.Live.{HasNoneInFlight, HasValidMaximum, InFlightCh
 use Rattle.live_machine.specs.Live.{MovesDevice, MovesDeviceSo, Remaps, RemapsSo, ResetsQueueSo, after_reset}
 use Rattle.live_machine.proofs.Moved.{joined}
 use Rattle.live_machine.proofs.Queues.{none_some, same_some, there_other, there_same}
-use Rattle.fs_chain.specs.Holds.{Machine, any_files, live_of}
+use Rattle.fs_chain.specs.Holds.{RunState, any_files, live_of}
 use Rattle.fs_chain.specs.Orders.{is_out}
 use Rattle.fs_chain.specs.declared.chain_handle.ChainHandle.{ChainHandle}
 use Rattle.fs_chain.specs.declared.error.ChainError.{ChainError}
 use Rattle.fs_chain.specs.declared.error.ChainError.TheVariants as error
 use Rattle.fs_chain.specs.declared.queue.QueueState.{QueueState}
-use Rattle.fs_driven.specs.declared.commands.Command.TheVariants as does
-use Rattle.fs_driven.specs.declared.commands.Returned.TheVariants as gives
-use Rattle.fs_driven.specs.Desks.{AreQueues, FitsRun}
+use Rattle.fs_driven.specs.declared.commands.DriverCall.TheVariants as does
+use Rattle.fs_driven.specs.declared.commands.Results.TheVariants as gives
+use Rattle.fs_driven.specs.Drivers.{AreQueues, FitsRun}
 use Rattle.fs_driven.specs.Moving.{has_valid_maximum, have_valid_maximum, move_error, moving, resetting, restored}
 use Rattle.fs_driven.specs.NewMemory.{HaveNone, IsErrorOf, TakeMemory, remap_error}
-use Rattle.fs_driven.specs.Reported.{Drives, DrivesOne, call_of}
+use Rattle.fs_driven.specs.Events.{Drives, DrivesOne, call_of}
 use Rattle.fs_driven.proofs.Calls.{refuses, same_held}
 use Rattle.fs_driven.proofs.Handles.{not_free}
 use Rattle.fs_driven.proofs.Remaps.{fits_new, is_empty, is_free}
@@ -90,8 +90,8 @@ same_length (q ∷ qs) = ap suc (same_length qs)
 
 -- ---- the run's events of a move, and what they lead to
 
-record Moved (s : Machine) (qs : List QueueState) (m : Memory) : Type 0 where
-  pub after : Machine
+record Moved (s : RunState) (qs : List QueueState) (m : Memory) : Type 0 where
+  pub after : RunState
   pub run : LiveRun any_files s (moving s.queues (moved_of qs) m) after
   pub places : after.places ≡ m
   pub limit : after.limit ≡ s.limit
@@ -109,11 +109,11 @@ are_all (v ∷ vs) (q ∷ qs) are same =
     ∙ ap (λ (l : List LiveQueue). live_of q ∷ l) (are_all vs qs (λ j p there. are (suc j) p there) (omega (arith, same)))
 are_all _ _ are same = absurd (omega (arith, same))
 
-moves_all : (s : Machine) (qs : List QueueState) (m : Memory) → AreQueues s qs → s.chains ≡ [] → MayMove qs
+moves_all : (s : RunState) (qs : List QueueState) (m : Memory) → AreQueues s qs → s.chains ≡ [] → MayMove qs
     → (length s.queues == length (moved_of qs)) ≡ true → Moved s qs m
 moves_all s qs m are none may is =
     let same : length s.queues ≡ length qs = eqb-true (length s.queues) (length (moved_of qs)) is ∙ same_length qs in
-    let after : Machine = record s { places = m; queues = moved_of qs } in
+    let after : RunState = record s { places = m; queues = moved_of qs } in
     let moves : MovesDeviceSo s m (moved_of qs) after = record {
       none_in_flight = none;
       same = same_queues qs
@@ -135,8 +135,8 @@ moves_all s qs m are none may is =
     }
 
 -- queues are reset one behind another, from queue i on
-record ResetAll (s : Machine) (i : ℕ) (qs : List QueueState) : Type 0 where
-  pub after : Machine
+record ResetAll (s : RunState) (i : ℕ) (qs : List QueueState) : Type 0 where
+  pub after : RunState
   pub run : LiveRun any_files s (resetting i (moved_of qs)) after
   pub places : after.places ≡ s.places
   pub limit : after.limit ≡ s.limit
@@ -146,7 +146,7 @@ record ResetAll (s : Machine) (i : ℕ) (qs : List QueueState) : Type 0 where
       slice_get after.queues (i + j) ≡ Some (live_of (restored q))
   pub chains : after.chains ≡ []
 
-resets_all : (s : Machine) (i : ℕ) (qs : List QueueState)
+resets_all : (s : RunState) (i : ℕ) (qs : List QueueState)
     → ((j : ℕ) (q : QueueState) → slice_get qs j ≡ Some q → slice_get s.queues (i + j) ≡ Some (live_of q))
     → s.chains ≡ [] → MayMove qs → ResetAll s i qs
 resets_all s i [] are none may = record {
@@ -161,7 +161,7 @@ resets_all s i [] are none may = record {
 }
 resets_all s i (q ∷ qs) are none may =
     let v : LiveQueue = live_of (restored q) in
-    let mid : Machine = after_reset s i v in
+    let mid : RunState = after_reset s i v in
     let first : slice_get s.queues i ≡ Some (live_of q) =
     subst (λ (n : ℕ). slice_get s.queues n ≡ Some (live_of q)) (no_more i) (are zero q refl) in
     let resets : ResetsQueueSo s i v mid = record { old = live_of q; there = first; positions_agree = may.0; few = may.1; state = refl } in
@@ -208,12 +208,12 @@ from_zero : (j : ℕ) → j ≡ 0 + j
 from_zero j = omega arith
 
 -- in a run of more queues
-resets_and_remaps : (s : Machine) (qs : List QueueState) (m : Memory) → AreQueues s qs → s.chains ≡ [] → MayMove qs
+resets_and_remaps : (s : RunState) (qs : List QueueState) (m : Memory) → AreQueues s qs → s.chains ≡ [] → MayMove qs
     → (length s.queues == length (moved_of qs)) ≡ false → Moved s qs m
 resets_and_remaps s qs m are none may isnt_all =
     let r = resets_all s 0 qs
     (λ j p there. subst (λ (n : ℕ). slice_get s.queues n ≡ Some (live_of p)) (from_zero j) (are j p there)) none may in
-    let after : Machine = record (r.after) { places = m } in
+    let after : RunState = record (r.after) { places = m } in
     let remaps : RemapsSo r.after m after =
     record { keeps = subst (λ (cs : List InFlightChain). AllByRecursion (KeepsQueue r.after m) cs) (sym r.chains) tt; state = refl } in
     record {
@@ -232,7 +232,7 @@ resets_and_remaps s qs m are none may isnt_all =
       chains = r.chains;
     }
 
-moves_by : (s : Machine) (qs : List QueueState) (m : Memory) (b : Bool) → (length s.queues == length (moved_of qs)) ≡ b
+moves_by : (s : RunState) (qs : List QueueState) (m : Memory) (b : Bool) → (length s.queues == length (moved_of qs)) ≡ b
     → AreQueues s qs → s.chains ≡ [] → MayMove qs → Moved s qs m
 moves_by s qs m true is are none may = moves_all s qs m are none may is
 moves_by s qs m false is are none may = resets_and_remaps s qs m are none may is

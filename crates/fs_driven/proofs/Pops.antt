@@ -2,18 +2,19 @@
 use Rattle.std.proofs.Common.{inl, inr, ◌≡◌, ℕ, Bool, false, List, [], ◌∷◌, ◌++◌, length, Option, Some, None, slice_get, refl, subst, suc}
 use Rattle.std.proofs.Common.{Result, Ok, Err, IfErr, IfOk, IsTrue, OnErr, if◌then◌else◌, ◌+◌, ◌<◌, sym, ap, ◌∙◌, true, ◌⊎◌, arith}
 use Rattle.std.specs.Borrow.{Bor}
-use Rattle.fs_chain.specs.Holds.{IsPopOf, pop_of, BeginsAPop, ContinuesAPop, EndsBy, HasPopped, PopIs, PopsBy, RefusedBy, IsHeldIn, IsQueue}
-use Rattle.fs_chain.specs.Holds.{Machine, Pop, any_files, live_of}
+use Rattle.fs_chain.specs.Holds.{IsPopOf, pop_of, BeginsAPop, ContinuesAPop, EndsBy, HoldsPopped, PopIs, PopsBy, RefusedBy, IsHeldIn}
+use Rattle.fs_chain.specs.Holds.{IsRunQueue}
+use Rattle.fs_chain.specs.Holds.{RunState, Pop, any_files, live_of}
 use Rattle.fs_chain.proofs.HoldsQueues.{live_index, same_index}
 use Rattle.fs_chain.specs.declared.error.ChainError.{ChainError}
 use Rattle.fs_chain.specs.Events.{event_fault, event_miss}
 use Rattle.vm_iotlb.specs.declared.iova.IovaRange.{IovaRange}
 use Rattle.vm_iotlb.specs.declared.permissions.Permissions.{Permissions}
 use Rattle.fs_queue.specs.declared.fault.QueueError.{QueueError}
-use Rattle.fs_chain.specs.Loads.{ProceedsSo, IsSame, RefusesWalk, came, whole}
+use Rattle.fs_chain.specs.Loads.{ProceedsSo, IsSame, RefusesAPop, came, whole}
 use Rattle.fs_chain.specs.Orders.{load_len, is_out}
 use Rattle.fs_chain.specs.Walks.{BeginsUnless, BeginsWhere, ContinuesUnless, KeepsStep, LacksEvents, WalksFrom, course_of}
-use Rattle.fs_chain.specs.Walks.{queue_after, state_after, reported_of}
+use Rattle.fs_chain.specs.Walks.{queue_after, state_after, outcome_of}
 use Rattle.fs_chain.specs.Queues.{pop_id_of}
 use Rattle.fs_queue.specs.Chain.{Descriptor}
 use Rattle.fs_chain.specs.Pops.{AddsSo}
@@ -41,20 +42,20 @@ use Rattle.vm_memory.specs.Memory.{Memory}
 use Rattle.fs_regions.specs.Places.{places_in}
 use Rattle.server_phases.specs.declared.session.Session.{Session}
 use Rattle.live_machine.specs.Several.{LiveQueue, may_take, returning}
-use Rattle.fs_driven.specs.Desks.{Begun, Desk, FitsRun, IsReady, MayPop, no_pop, own, with_pop}
-use Rattle.fs_driven.specs.Reported.{DrivesOne, IsLoadedBy, PopReports, Reports, Transition, transition}
-use Rattle.fs_driven.specs.Preserved.{KeepsMemory}
+use Rattle.fs_driven.specs.Drivers.{PushUnderWay, Driver, FitsRun, CanBePushed, MayPop, no_pop, own, with_pop}
+use Rattle.fs_driven.specs.Events.{DrivesOne, IsLoadedBy, PopEvents, EventsOf, Transition, transition}
+use Rattle.fs_driven.specs.Kept.{KeepsMemory}
 use Rattle.fs_chain.specs.Together.{Owned, with_handle}
 use Rattle.fs_chain.specs.declared.chain_handle.ChainHandle.{ChainHandle}
-use Rattle.fs_driven.specs.declared.commands.Command.TheVariants as does
-use Rattle.fs_driven.specs.declared.commands.Returned.TheVariants as gives
+use Rattle.fs_driven.specs.declared.commands.DriverCall.TheVariants as does
+use Rattle.fs_driven.specs.declared.commands.Results.TheVariants as gives
 use Rattle.fs_chain.specs.declared.queue.QueueState.{QueueState}
 use Rattle.fs_chain.specs.declared.state.ChainState as state
 use Rattle.fs_chain.specs.declared.state.ChainState.TheVariants as at
 use Rattle.fs_driven.proofs.Counts.{refused_counts, same_count, took_counts}
-use Rattle.fs_driven.proofs.Handles.{Moves, SamePlaces, held_out, idles, joins, others_same}
+use Rattle.fs_driven.proofs.Handles.{MovesRun, SamePlaces, held_out, idles, joins, others_same}
 use Rattle.fs_driven.proofs.Calls.{HasNoPush, fetched_ready, fits_out, refuses, stays_put, still}
-use Rattle.fs_driven.proofs.Spots.{DrivenAt, DrivesAt, LeadsAt, Spot, desk_after, desk_before, drives_one, with_pop_same}
+use Rattle.fs_driven.proofs.QueuePlaces.{DrivenAt, DrivesAt, HasRunAt, QueuePlace, driver_after, driver_before, drives_one, with_pop_same}
 
 pub idle_may : (limit : ℕ) (q : QueueState) (p : Pop) (w : ChainHandle) → w.state ≡ at.Free →
     MayPop limit q p w w.state
@@ -69,7 +70,7 @@ fits_free places limit q p r old new same free fits =
     (fits.0 ∙ ap places_in (sym same.0), fits.1 ∙ sym same.1, idle_may limit q r new free)
 
 -- the queue that a pop leaves
-queue_now : (s : Machine) (i : ℕ) (q q' : QueueState) (v : LiveQueue) → IsQueue s i q →
+queue_now : (s : RunState) (i : ℕ) (q q' : QueueState) (v : LiveQueue) → IsRunQueue s i q →
     slice_get (changed_at s.queues i (λ _. v)) i ≡ Some (live_of q')
     → live_of q' ≡ v
 queue_now s i q q' v there now =
@@ -94,16 +95,16 @@ refused_places w e head len = by_stop (stops_queue e)
     by_stop true = refl
     by_stop false = refl
 
-popped_ready : (page_size n k : ℕ) (q : QueueState) (push : Option Begun) (c : InFlightChain)
+popped_ready : (page_size n k : ℕ) (q : QueueState) (push : Option PushUnderWay) (c : InFlightChain)
     (fault : Option ChainFault) (st : state.ChainState) (session : Session)
     → c.phase ≡ phase_by fault → HasNoPush st → IsHeldIn n c c.phase st session →
-    IsReady page_size k q push c st
+    CanBePushed page_size k q push c st
 popped_ready page_size n k q push c None st session is quiet held =
     fetched_ready page_size n k q push c c.phase st session is held
-popped_ready page_size n k q push c (Some why) (at.HasReply out preserved) session is quiet held =
+popped_ready page_size n k q push c (Some why) (at.Replied out kept) session is quiet held =
     (faulty c.head why, subst (λ (p : Phase). PushedWith page_size c p (faulty c.head why)) (sym is) refl)
 popped_ready page_size n k q push c (Some why) (at.Pushing out) session is quiet held = absurd quiet
-popped_ready page_size n k q push c (Some why) (at.Lists out l) session is quiet held = absurd quiet
+popped_ready page_size n k q push c (Some why) (at.Listing out l) session is quiet held = absurd quiet
 popped_ready page_size n k q push c (Some why) _ session is quiet held = tt
 
 -- what a pop keeps
@@ -113,27 +114,27 @@ pub record Popping (old new : ChainHandle) (q q' : QueueState) : Type 0 where
   pub quiet : HasNoPush new.state
 
 -- T tells of a pop's events
-abbrev PoppedReports : Spot → QueueState → List ChainHandle → Option Begun → List LiveEvent →
-    (T : List LiveEvent → Desk → Type 0) → Type 0
+abbrev PoppedReports : QueuePlace → QueueState → List ChainHandle → Option PushUnderWay → List LiveEvent →
+    (T : List LiveEvent → Driver → Type 0) → Type 0
 PoppedReports i q' ws push es T =
-    (after : Machine) (os : List Owned) (pops : ℕ → Pop) → T es (desk_after after i ws q' os pops push)
+    (after : RunState) (os : List Owned) (pops : ℕ → Pop) → T es (driver_after after i ws q' os pops push)
 
-still_of : (q q' : QueueState) (push : Option Begun) → q'.pushing ≡ q.pushing →
+still_of : (q q' : QueueState) (push : Option PushUnderWay) → q'.pushing ≡ q.pushing →
     (q.pushing ≡ false → push ≡ None) → q'.pushing ≡ false → push ≡ None
 still_of q q' push same still none = still (sym same ∙ none)
 
 -- a pop that ended by itself
-ended : (s : Machine) (i : Spot) (page_size k : ℕ) (q q' : QueueState) (ws : List ChainHandle) (os : List Owned)
-    (pops : ℕ → Pop) (push : Option Begun) (old new : ChainHandle) (loaded : Loaded) (came : comes.CourseStep)
-    (T : List LiveEvent → Desk → Type 0)
+ended : (s : RunState) (i : QueuePlace) (page_size k : ℕ) (q q' : QueueState) (ws : List ChainHandle) (os : List Owned)
+    (pops : ℕ → Pop) (push : Option PushUnderWay) (old new : ChainHandle) (loaded : Loaded) (came : comes.CourseStep)
+    (T : List LiveEvent → Driver → Type 0)
     → DrivenAt s i page_size k q ws os pops push → slice_get ws k ≡ Some old → is_out old.state ≡ false →
     Popping old new q q'
     → Happens any_files s (EndsPop i.number loaded new.descriptors.items came)
     (after_pop s i.number (live_of q) loaded new.descriptors.items came)
-    → IsQueue (after_pop s i.number (live_of q) loaded new.descriptors.items came) i.number q'
-    → HasPopped s i.number (live_of q) loaded came new
+    → IsRunQueue (after_pop s i.number (live_of q) loaded new.descriptors.items came) i.number q'
+    → HoldsPopped s i.number (live_of q) loaded came new
     → PoppedReports i q' (with_handle ws k new) push (EndsPop i.number loaded new.descriptors.items came ∷ []) T
-    → LeadsAt s i page_size k pops q' (with_handle ws k new) T
+    → HasRunAt s i page_size k pops q' (with_handle ws k new) T
 ended s i page_size k q q' ws os pops push old new loaded step.Idle T all there free same happens queue has
     reports =
     let now : live_of q' ≡ live_of q = sym (same_some (live_of q) (live_of q') (sym all.queue ∙ queue)) in (
@@ -155,10 +156,10 @@ ended s i page_size k q q' ws os pops push old new loaded step.Idle T all there 
     )
 ended s i page_size k q q' ws os pops push old new loaded (step.Refused e) T all there free same happens queue
     has reports =
-    let after : Machine = after_pop s i.number (live_of q) loaded new.descriptors.items (step.Refused e) in
+    let after : RunState = after_pop s i.number (live_of q) loaded new.descriptors.items (step.Refused e) in
     let v : LiveQueue = record (live_of q) { queue = after_refusal (live_of q).queue e } in
     let now : live_of q' ≡ v = queue_now s i.number q q' v all.queue queue in
-    let moves : Moves s after i page_size k q q' no_pop push push new = record {
+    let moves : MovesRun s after i page_size k q q' no_pop push push new = record {
       page = refl;
       limit = refl;
       places = refl;
@@ -183,14 +184,14 @@ ended s i page_size k q q' ws os pops push old new loaded (step.Refused e) T all
     )
 ended s i page_size k q q' ws os pops push old new loaded (step.Chain head fault) T all there free same happens
     queue has reports =
-    let after : Machine = after_pop s i.number (live_of q) loaded new.descriptors.items (step.Chain head fault) in
+    let after : RunState = after_pop s i.number (live_of q) loaded new.descriptors.items (step.Chain head fault) in
     let c : InFlightChain = new_chain s i.number (live_of q) loaded new.descriptors.items head fault in
     let v : LiveQueue = several.took (live_of q) in
     let now : live_of q' ≡ v = queue_now s i.number q q' v all.queue queue in
     let room : IsTrue (may_take (live_of q)) =
     subst (λ (w : LiveQueue). IsTrue (may_take w)) (same_some happens.w (live_of q) (sym happens.there ∙ all.queue))
     happens.room in
-    let moves : Moves s after i page_size k q q' no_pop push push new = record {
+    let moves : MovesRun s after i page_size k q q' no_pop push push new = record {
       page = refl;
       limit = refl;
       places = refl;
@@ -216,22 +217,22 @@ ended s i page_size k q q' ws os pops push old new loaded (step.Chain head fault
     )
 ended s i page_size k q q' ws os pops push old new loaded _ T all there free same happens queue has reports = absurd happens.ends
 
-refused : (s : Machine) (i : Spot) (page_size k : ℕ) (q q' : QueueState) (ws : List ChainHandle) (os : List Owned)
-    (pops : ℕ → Pop) (push : Option Begun) (old new : ChainHandle) (reported : walked.PopOutcome)
-    (T : List LiveEvent → Desk → Type 0)
+refused : (s : RunState) (i : QueuePlace) (page_size k : ℕ) (q q' : QueueState) (ws : List ChainHandle) (os : List Owned)
+    (pops : ℕ → Pop) (push : Option PushUnderWay) (old new : ChainHandle) (result : walked.PopOutcome)
+    (T : List LiveEvent → Driver → Type 0)
     → DrivenAt s i page_size k q ws os pops push → slice_get ws k ≡ Some old → is_out old.state ≡ false →
     Popping old new q q'
-    → (r : RefusedBy s i.number q q' new reported)
+    → (r : RefusedBy s i.number q q' new result)
     → PoppedReports i q' (with_handle ws k new) push (RefusesPop i.number r.error ∷ []) T
-    → LeadsAt s i page_size k pops q' (with_handle ws k new) T
-refused s i page_size k q q' ws os pops push old new reported T all there free same r reports =
+    → HasRunAt s i page_size k pops q' (with_handle ws k new) T
+refused s i page_size k q q' ws os pops push old new result T all there free same r reports =
     let h = r.happens in
     let v : LiveQueue = record (h.w) { queue = after_refusal h.w.queue r.error } in
     let w_is : h.w ≡ live_of q = same_some h.w (live_of q) (sym h.there ∙ all.queue) in
-    let after : Machine = with_live s i.number v in
-    let queue : IsQueue after i.number q' = subst (λ (m : Machine). IsQueue m i.number q') h.state r.queue in
+    let after : RunState = with_live s i.number v in
+    let queue : IsRunQueue after i.number q' = subst (λ (m : RunState). IsRunQueue m i.number q') h.state r.queue in
     let now : live_of q' ≡ v = queue_now s i.number q q' v all.queue queue in
-    let moves : Moves s after i page_size k q q' no_pop push push new = record {
+    let moves : MovesRun s after i page_size k q q' no_pop push push new = record {
       page = refl;
       limit = refl;
       places = refl;
@@ -260,64 +261,64 @@ refused s i page_size k q q' ws os pops push old new reported T all there free s
     )
 
 -- the event of a pop that ended by itself is told by its result
-ends_tell : (t : Transition) (s after : Machine) (q : LiveQueue) (loaded : Loaded) (came : comes.CourseStep)
-    (reported : walked.PopOutcome) → reported ≡ reported_of t.now.descriptors.items came
+ends_tell : (t : Transition) (s after : RunState) (q : LiveQueue) (loaded : Loaded) (came : comes.CourseStep)
+    (result : walked.PopOutcome) → result ≡ outcome_of t.now.descriptors.items came
     → EndsPopIn s t.queue q loaded t.now.descriptors.items came after
-    → PopReports t loaded reported (EndsPop t.queue loaded t.now.descriptors.items came ∷ [])
-ends_tell t s after q loaded step.Idle reported is ends =
-    subst (λ (x : walked.PopOutcome). PopReports t loaded x
+    → PopEvents t loaded result (EndsPop t.queue loaded t.now.descriptors.items came ∷ [])
+ends_tell t s after q loaded step.Idle result is ends =
+    subst (λ (x : walked.PopOutcome). PopEvents t loaded x
     (EndsPop t.queue loaded t.now.descriptors.items step.Idle ∷ [])) (sym is) refl
-ends_tell t s after q loaded (step.Refused e) reported is ends =
-    subst (λ (x : walked.PopOutcome). PopReports t loaded x
+ends_tell t s after q loaded (step.Refused e) result is ends =
+    subst (λ (x : walked.PopOutcome). PopEvents t loaded x
     (EndsPop t.queue loaded t.now.descriptors.items (step.Refused e) ∷ [])) (sym is) (inl refl)
-ends_tell t s after q loaded (step.Chain head None) reported is ends =
-    subst (λ (x : walked.PopOutcome). PopReports t loaded x
+ends_tell t s after q loaded (step.Chain head None) result is ends =
+    subst (λ (x : walked.PopOutcome). PopEvents t loaded x
     (EndsPop t.queue loaded t.now.descriptors.items (step.Chain head None) ∷ [])) (sym is) (refl, refl, refl)
-ends_tell t s after q loaded (step.Chain head (Some fault)) reported is ends =
-    subst (λ (x : walked.PopOutcome). PopReports t loaded x
+ends_tell t s after q loaded (step.Chain head (Some fault)) result is ends =
+    subst (λ (x : walked.PopOutcome). PopEvents t loaded x
     (EndsPop t.queue loaded t.now.descriptors.items (step.Chain head (Some fault)) ∷ [])) (sym is) refl
-ends_tell t s after q loaded _ reported is ends = absurd ends
+ends_tell t s after q loaded _ result is ends = absurd ends
 
 -- T tells of what a pop tells
-abbrev GivesPop : Spot → (page_size k : ℕ) → Desk → (q q' : QueueState) → Option Begun →
-    (old new : ChainHandle) → Loaded → walked.PopOutcome → (T : List LiveEvent → Desk → Type 0) → Type 0
-GivesPop i page_size k d q q' push old new loaded reported T =
-    (after : Machine) (os : List Owned) (pops : ℕ → Pop) (es : List LiveEvent) →
-    let d' : Desk = desk_after after i (with_handle d.handles k new) q' os pops push in
-    PopReports (transition i.number page_size k d d' old new q q') loaded reported es → T es d'
+abbrev GivesPop : QueuePlace → (page_size k : ℕ) → Driver → (q q' : QueueState) → Option PushUnderWay →
+    (old new : ChainHandle) → Loaded → walked.PopOutcome → (T : List LiveEvent → Driver → Type 0) → Type 0
+GivesPop i page_size k d q q' push old new loaded result T =
+    (after : RunState) (os : List Owned) (pops : ℕ → Pop) (es : List LiveEvent) →
+    let d' : Driver = driver_after after i (with_handle d.handles k new) q' os pops push in
+    PopEvents (transition i.number page_size k d d' old new q q') loaded result es → T es d'
 
-ends_or_refused : (s : Machine) (i : Spot) (page_size k : ℕ) (q q' : QueueState) (ws : List ChainHandle)
-    (os : List Owned) (pops : ℕ → Pop) (push : Option Begun) (old new : ChainHandle) (loaded : Loaded)
-    (reported : walked.PopOutcome) (T : List LiveEvent → Desk → Type 0)
+ends_or_refused : (s : RunState) (i : QueuePlace) (page_size k : ℕ) (q q' : QueueState) (ws : List ChainHandle)
+    (os : List Owned) (pops : ℕ → Pop) (push : Option PushUnderWay) (old new : ChainHandle) (loaded : Loaded)
+    (result : walked.PopOutcome) (T : List LiveEvent → Driver → Type 0)
     → DrivenAt s i page_size k q ws os pops push → slice_get ws k ≡ Some old → is_out old.state ≡ false →
     Popping old new q q'
-    → GivesPop i page_size k (desk_before s i ws os pops) q q' push old new loaded reported T
-    → EndsBy s i.number q q' loaded new reported ⊎ RefusedBy s i.number q q' new reported
-    → LeadsAt s i page_size k pops q' (with_handle ws k new) T
-ends_or_refused s i page_size k q q' ws os pops push old new loaded reported T all there free same give (inl e) =
+    → GivesPop i page_size k (driver_before s i ws os pops) q q' push old new loaded result T
+    → EndsBy s i.number q q' loaded new result ⊎ RefusedBy s i.number q q' new result
+    → HasRunAt s i page_size k pops q' (with_handle ws k new) T
+ends_or_refused s i page_size k q q' ws os pops push old new loaded result T all there free same give (inl e) =
     ended s i page_size k q q' ws os pops push old new loaded e.came T all there free same e.happens e.queue
     e.has
     (λ after os' loads'. give after os' loads' (EndsPop i.number loaded new.descriptors.items e.came ∷ [])
-    (ends_tell (transition i.number page_size k (desk_before s i ws os pops)
-    (desk_after after i (with_handle ws k new) q' os' loads' push) old new q q') s
-    (after_pop s i.number (live_of q) loaded new.descriptors.items e.came) e.happens.w loaded e.came reported e.reported_is
+    (ends_tell (transition i.number page_size k (driver_before s i ws os pops)
+    (driver_after after i (with_handle ws k new) q' os' loads' push) old new q q') s
+    (after_pop s i.number (live_of q) loaded new.descriptors.items e.came) e.happens.w loaded e.came result e.outcome_is
     e.happens.ends))
-ends_or_refused s i page_size k q q' ws os pops push old new loaded reported T all there free same give (inr r) =
-    refused s i page_size k q q' ws os pops push old new reported T all there free same r
+ends_or_refused s i page_size k q q' ws os pops push old new loaded result T all there free same give (inr r) =
+    refused s i page_size k q q' ws os pops push old new result T all there free same r
     (λ after os' loads'. give after os' loads' (RefusesPop i.number r.error ∷ [])
-    (subst (λ (x : walked.PopOutcome). PopReports (transition i.number page_size k (desk_before s i ws os pops)
-    (desk_after after i (with_handle ws k new) q' os' loads' push) old new q q') loaded x (RefusesPop i.number r.error ∷ []))
-    (sym r.reported_is) (inr refl)))
+    (subst (λ (x : walked.PopOutcome). PopEvents (transition i.number page_size k (driver_before s i ws os pops)
+    (driver_after after i (with_handle ws k new) q' os' loads' push) old new q q') loaded x (RefusesPop i.number r.error ∷ []))
+    (sym r.outcome_is) (inr refl)))
 
-pub popped : (s : Machine) (i : Spot) (page_size k : ℕ) (q q' : QueueState) (ws : List ChainHandle) (os : List Owned)
-    (pops : ℕ → Pop) (push : Option Begun) (old new : ChainHandle) (p : Pop) (reported : walked.PopOutcome)
-    (T : List LiveEvent → Desk → Type 0)
+pub popped : (s : RunState) (i : QueuePlace) (page_size k : ℕ) (q q' : QueueState) (ws : List ChainHandle) (os : List Owned)
+    (pops : ℕ → Pop) (push : Option PushUnderWay) (old new : ChainHandle) (p : Pop) (result : walked.PopOutcome)
+    (T : List LiveEvent → Driver → Type 0)
     → DrivenAt s i page_size k q ws os pops push → slice_get ws k ≡ Some old → is_out old.state ≡ false →
     Popping old new q q'
     → IsPopOf q p
-    → GivesPop i page_size k (desk_before s i ws os pops) q q' push old new p.loaded reported T
-    → PopIs s i.number q q' p new reported
-    → LeadsAt s i page_size k pops q' (with_handle ws k new) T
+    → GivesPop i page_size k (driver_before s i ws os pops) q q' push old new p.loaded result T
+    → PopIs s i.number q q' p new result
+    → HasRunAt s i page_size k pops q' (with_handle ws k new) T
 popped s i page_size k q q' ws os pops push old new p (shows.Load n) T all there free same event give is =
     still s i page_size k q q' ws os pops push old new p T all there free same.memory event is
     (give s os (with_pop pops k p) [] (refl, ap (λ (x : Pop). x.loaded) (with_pop_same pops k p)))
@@ -332,7 +333,7 @@ popped s i page_size k q q' ws os pops push old new p (shows.Missing range acces
       refl,
       idles s s i page_size q q' ws os k old new no_pop pops push push all there
           (stays_put s i page_size k q q' no_pop push new
-          (subst (λ (r : QueueState). IsQueue s i.number r) (sym is.1) all.queue)
+          (subst (λ (r : QueueState). IsRunQueue s i.number r) (sym is.1) all.queue)
           (same_index q' _ is.1)
           (λ head len. ap (λ (r : QueueState). stores_after_reply (returning (live_of r)) head len) is.1)
           same.pushing all.still
@@ -341,73 +342,73 @@ popped s i page_size k q q' ws os pops push old new p (shows.Missing range acces
       (λ b is. inl (sym all.under ∙ is)),
       give s os (with_pop pops k no_pop) [] refl,
     )
-popped s i page_size k q q' ws os pops push old new p reported T all there free same event give is =
-    ends_or_refused s i page_size k q q' ws os pops push old new p.loaded reported T all there free same give
+popped s i page_size k q q' ws os pops push old new p result T all there free same event give is =
+    ends_or_refused s i page_size k q q' ws os pops push old new p.loaded result T all there free same give
     is
 
-abbrev PopReported : (page_size : ℕ) → (old new : ChainHandle) → (q q' : QueueState) → Bor (List ℕ) →
+abbrev PopReturned : (page_size : ℕ) → (old new : ChainHandle) → (q q' : QueueState) → Bor (List ℕ) →
     outcome.LoadOutcome → Type 0
-PopReported page_size old new q q' bytes reported =
-    DrivesAt page_size old new q q' (does.Pop bytes) (gives.Popped (Ok reported))
+PopReturned page_size old new q q' bytes result =
+    DrivesAt page_size old new q q' (does.Pop bytes) (gives.Popped (Ok result))
 
 begins : (page_size : ℕ) (old new : ChainHandle) (q q' : QueueState) (bytes : Bor (List ℕ))
-    (reported : outcome.LoadOutcome) → old.state ≡ at.Free
-    → ProceedsSo old q bytes.now reported new q'
-    → BeginsAPop old new q q' reported → Popping old new q q' → PopReported page_size old new q q' bytes reported
+    (result : outcome.LoadOutcome) → old.state ≡ at.Free
+    → ProceedsSo old q bytes.now result new q'
+    → BeginsAPop old new q q' result → Popping old new q q' → PopReturned page_size old new q q' bytes result
 unfolding BeginsAPop
 begins page_size old new q q' bytes outcomes.Part free proceeds begin same ws k there u s i os pops push all =
     absurd begin
-begins page_size old new q q' bytes (outcomes.On reported) free proceeds begin same ws k there u s i os pops push all =
+begins page_size old new q q' bytes (outcomes.On result) free proceeds begin same ws k there u s i os pops push all =
     let was = all.fits old there in
-    let loads : (after : Desk) → IsLoadedBy old.state
-    (transition i.number page_size k (desk_before s i ws os pops) after old new q q') bytes.now reported nothing =
+    let loads : (after : Driver) → IsLoadedBy old.state
+    (transition i.number page_size k (driver_before s i ws os pops) after old new q q') bytes.now result nothing =
     λ after. subst (λ (st : state.ChainState). IsLoadedBy st
-    (transition i.number page_size k (desk_before s i ws os pops) after old new q q') bytes.now reported nothing) (sym free) refl in
+    (transition i.number page_size k (driver_before s i ws os pops) after old new q q') bytes.now result nothing) (sym free) refl in
     popped s i page_size k q q' ws os pops push old new
-    (pop_of q nothing) reported
-    (λ es d. Reports (transition i.number page_size k (desk_before s i ws os pops) d old new q q') (does.Pop bytes) u
-    (gives.Popped (Ok (outcomes.On reported))) es)
+    (pop_of q nothing) result
+    (λ es d. EventsOf (transition i.number page_size k (driver_before s i ws os pops) d old new q q') (does.Pop bytes) u
+    (gives.Popped (Ok (outcomes.On result))) es)
     all there (ap is_out free) same refl
     (λ after os' loads' es reports.
-    (proceeds, nothing, loads (desk_after after i (with_handle ws k new) q' os' loads' push), reports))
+    (proceeds, nothing, loads (driver_after after i (with_handle ws k new) q' os' loads' push), reports))
     (begin s i.number all.queue was.0 was.1 all.small)
 
 continues : (page_size : ℕ) (old new : ChainHandle) (q q' : QueueState) (bytes : Bor (List ℕ))
-    (reported : outcome.LoadOutcome) (course : Course) (pop_id : PopId) (walk : QueueWalk) →
-    old.state ≡ at.Walking course pop_id walk
-    → ProceedsSo old q bytes.now reported new q'
-    → ContinuesAPop old new q q' bytes.now reported → Popping old new q q' →
-    PopReported page_size old new q q' bytes reported
+    (result : outcome.LoadOutcome) (course : Course) (pop_id : PopId) (walk : QueueWalk) →
+    old.state ≡ at.Popping course pop_id walk
+    → ProceedsSo old q bytes.now result new q'
+    → ContinuesAPop old new q q' bytes.now result → Popping old new q q' →
+    PopReturned page_size old new q q' bytes result
 unfolding ContinuesAPop
 continues page_size old new q q' bytes outcomes.Part course pop_id walk is proceeds go same ws k there u s i os pops
     push all =
     let was = all.fits old there in
     let may = subst (λ (st : state.ChainState). MayPop s.limit q (pops k) old st) is was.2 in
     still s i page_size k q q' ws os pops push old new (pops k)
-    (λ es d. Reports (transition i.number page_size k (desk_before s i ws os pops) d old new q q') (does.Pop bytes) u
+    (λ es d. EventsOf (transition i.number page_size k (driver_before s i ws os pops) d old new q q') (does.Pop bytes) u
     (gives.Popped (Ok outcomes.Part)) es)
     all there (ap is_out is) same.memory may.1
     (go s i.number (pops k) may.0 all.queue was.0 may.1 all.small)
     (refl, with_pop_same pops k (pops k), proceeds)
-continues page_size old new q q' bytes (outcomes.On reported) course pop_id walk is proceeds go same ws k there u s i os
+continues page_size old new q q' bytes (outcomes.On result) course pop_id walk is proceeds go same ws k there u s i os
     pops push all =
     let was = all.fits old there in
     let may = subst (λ (st : state.ChainState). MayPop s.limit q (pops k) old st) is was.2 in
     let on = go s i.number (pops k) may.0 all.queue was.0 may.1 all.small in
-    let adds : q.stopped ≡ None → AddsSo (at.Walking course pop_id walk) (outcomes.On reported) new.descriptors.items
+    let adds : q.stopped ≡ None → AddsSo (at.Popping course pop_id walk) (outcomes.On result) new.descriptors.items
     (pops k).loaded (whole old bytes.now) on.0 =
-    λ carries_on. subst (λ (st : state.ChainState). AddsSo st (outcomes.On reported) new.descriptors.items
+    λ carries_on. subst (λ (st : state.ChainState). AddsSo st (outcomes.On result) new.descriptors.items
     (pops k).loaded (whole old bytes.now) on.0) is (on.1 carries_on) in
-    let loads : (after : Desk) → IsLoadedBy old.state
-    (transition i.number page_size k (desk_before s i ws os pops) after old new q q') bytes.now reported on.0 =
+    let loads : (after : Driver) → IsLoadedBy old.state
+    (transition i.number page_size k (driver_before s i ws os pops) after old new q q') bytes.now result on.0 =
     λ after. subst (λ (st : state.ChainState). IsLoadedBy st
-    (transition i.number page_size k (desk_before s i ws os pops) after old new q q') bytes.now reported on.0) (sym is) adds in
-    popped s i page_size k q q' ws os pops push old new (record (pops k) { loaded = on.0 }) reported
-    (λ es d. Reports (transition i.number page_size k (desk_before s i ws os pops) d old new q q') (does.Pop bytes) u
-    (gives.Popped (Ok (outcomes.On reported))) es)
+    (transition i.number page_size k (driver_before s i ws os pops) after old new q q') bytes.now result on.0) (sym is) adds in
+    popped s i page_size k q q' ws os pops push old new (record (pops k) { loaded = on.0 }) result
+    (λ es d. EventsOf (transition i.number page_size k (driver_before s i ws os pops) d old new q q') (does.Pop bytes) u
+    (gives.Popped (Ok (outcomes.On result))) es)
     all there (ap is_out is) same may.1
     (λ after os' loads' es reports.
-    (proceeds, on.0, loads (desk_after after i (with_handle ws k new) q' os' loads' push), reports))
+    (proceeds, on.0, loads (driver_after after i (with_handle ws k new) q' os' loads' push), reports))
     on.2
 
 -- ---- what a pop keeps
@@ -422,14 +423,14 @@ step_pushing : (q : QueueState) (came : comes.CourseStep) → (queue_after q cam
 step_pushing q (step.Load walk) = refl
 step_pushing q _ = refl
 
-preserved_step : (course : Course) (pop_id : PopId) (came : comes.CourseStep) (old new : ChainHandle)
-    (q q' : QueueState) (reported : walked.PopOutcome) → KeepsStep course pop_id came old new q q' reported →
+kept_step : (course : Course) (pop_id : PopId) (came : comes.CourseStep) (old new : ChainHandle)
+    (q q' : QueueState) (result : walked.PopOutcome) → KeepsStep course pop_id came old new q q' result →
     Popping old new q q'
-preserved_step course pop_id came old new q q' reported preserved =
+kept_step course pop_id came old new q q' result kept =
     record {
-      memory = (preserved.4.0, preserved.4.1);
-      pushing = ap (λ (r : QueueState). r.pushing) preserved.2 ∙ step_pushing q came;
-      quiet = subst (λ (st : state.ChainState). HasNoPush st) (sym preserved.1)
+      memory = (kept.4.0, kept.4.1);
+      pushing = ap (λ (r : QueueState). r.pushing) kept.2 ∙ step_pushing q came;
+      quiet = subst (λ (st : state.ChainState). HasNoPush st) (sym kept.1)
           (step_quiet course pop_id new.descriptors.items came);
     }
 
@@ -437,54 +438,54 @@ preserved_step course pop_id came old new q q' reported preserved =
 free_quiet : (new : ChainHandle) → new.state ≡ at.Free → HasNoPush new.state
 free_quiet new is = subst (λ (st : state.ChainState). HasNoPush st) (sym is) tt
 
-pub begun_keeps : (old new : ChainHandle) (q q' : QueueState) (reported : walked.PopOutcome)
+pub begun_keeps : (old new : ChainHandle) (q q' : QueueState) (result : walked.PopOutcome)
     (stopped : Option QueueError) → old.state ≡ at.Free →
-    BeginsUnless stopped old new q q' reported
+    BeginsUnless stopped old new q q' result
     → Popping old new q q'
-begun_keeps old new q q' reported (Some why) free by =
+begun_keeps old new q q' result (Some why) free by =
     record { memory = (by.1.0.0, by.1.0.1); pushing = ap (λ (r : QueueState). r.pushing) by.2; quiet = free_quiet new (by.1.3 ∙ free) }
-begun_keeps old new q q' reported None free by =
-    by_fault old new q q' reported (event_fault (places_in old.regions) q) free by
+begun_keeps old new q q' result None free by =
+    by_fault old new q q' result (event_fault (places_in old.regions) q) free by
   where
-    by_miss : (old new : ChainHandle) (q q' : QueueState) (reported : walked.PopOutcome) (e : QueueError)
+    by_miss : (old new : ChainHandle) (q q' : QueueState) (result : walked.PopOutcome) (e : QueueError)
         (miss : Option (IovaRange × Permissions)) → old.state ≡ at.Free
-        → LacksEvents e miss old new q q' reported → Popping old new q q'
-    by_miss old new q q' reported e (Some miss) free by =
+        → LacksEvents e miss old new q q' result → Popping old new q q'
+    by_miss old new q q' result e (Some miss) free by =
         record {
           memory = (by.1.0.0.0, by.1.0.0.1);
           pushing = ap (λ (r : QueueState). r.pushing) by.2;
           quiet = free_quiet new (by.1.0.3 ∙ free);
         }
-    by_miss old new q q' reported e None free by =
+    by_miss old new q q' result e None free by =
         record {
           memory = (by.1.0.0.0, by.1.0.0.1);
           pushing = ap (λ (r : QueueState). r.pushing) by.2;
           quiet = free_quiet new (by.1.0.3 ∙ free);
         }
 
-    by_fault : (old new : ChainHandle) (q q' : QueueState) (reported : walked.PopOutcome)
+    by_fault : (old new : ChainHandle) (q q' : QueueState) (result : walked.PopOutcome)
         (fault : Option QueueError) → old.state ≡ at.Free →
-        BeginsWhere fault old new q q' reported
+        BeginsWhere fault old new q q' result
         → Popping old new q q'
-    by_fault old new q q' reported (Some e) free by =
-        by_miss old new q q' reported e (event_miss (places_in old.regions) q) free by
-    by_fault old new q q' reported None free by =
-        preserved_step (course_of q old.limit) (pop_id_of old.regions q) by.0 old new q q' reported by.1
+    by_fault old new q q' result (Some e) free by =
+        by_miss old new q q' result e (event_miss (places_in old.regions) q) free by
+    by_fault old new q q' result None free by =
+        kept_step (course_of q old.limit) (pop_id_of old.regions q) by.0 old new q q' result by.1
 
-pub gone_keeps : (old new : ChainHandle) (q q' : QueueState) (bytes : List ℕ) (reported : walked.PopOutcome)
+pub gone_keeps : (old new : ChainHandle) (q q' : QueueState) (bytes : List ℕ) (result : walked.PopOutcome)
     (course : Course) (pop_id : PopId) (walk : QueueWalk) (stopped : Option QueueError) →
-    ContinuesUnless stopped course pop_id walk bytes old new q q' reported → Popping old new q q'
-gone_keeps old new q q' bytes reported course pop_id walk (Some why) by =
+    ContinuesUnless stopped course pop_id walk bytes old new q q' result → Popping old new q q'
+gone_keeps old new q q' bytes result course pop_id walk (Some why) by =
     record { memory = (by.1.0.0, by.1.0.1); pushing = ap (λ (r : QueueState). r.pushing) by.2; quiet = free_quiet new by.1.3 }
-gone_keeps old new q q' bytes reported course pop_id walk None by =
-    preserved_step course pop_id by.0 old new q q' reported by.1
+gone_keeps old new q q' bytes result course pop_id walk None by =
+    kept_step course pop_id by.0 old new q q' result by.1
 
 pub no_part : (old : ChainHandle) (bytes : List ℕ) → came old + length bytes < load_len old.state →
     load_len old.state ≡ 0 → ⊥
 no_part old bytes less zero_is = omega arith
 
 pub part_keeps : (old new : ChainHandle) (q q' : QueueState) (bytes : List ℕ) (course : Course) (pop_id : PopId)
-    (walk : QueueWalk) → old.state ≡ at.Walking course pop_id walk → ProceedsSo old q bytes outcomes.Part new q' →
+    (walk : QueueWalk) → old.state ≡ at.Popping course pop_id walk → ProceedsSo old q bytes outcomes.Part new q' →
     Popping old new q q'
 part_keeps old new q q' bytes course pop_id walk is proceeds =
     record {
@@ -494,36 +495,36 @@ part_keeps old new q q' bytes course pop_id walk is proceeds =
     }
 
 pop_at : (page_size : ℕ) (old new : ChainHandle) (q q' : QueueState) (bytes : Bor (List ℕ))
-    (reported : outcome.LoadOutcome) (st : state.ChainState) →
+    (result : outcome.LoadOutcome) (st : state.ChainState) →
     old.state ≡ st
-    → ProceedsSo old q bytes.now reported new q' → PopsBy st old new q q' bytes.now reported →
-    DrivesOne page_size old new q q' (does.Pop bytes) (gives.Popped (Ok reported))
-pop_at page_size old new q q' bytes (outcomes.On reported) at.Free is proceeds by =
-    let on = subst (λ (st : state.ChainState). WalksFrom st (whole old bytes.now) old new q q' reported) is proceeds.4
+    → ProceedsSo old q bytes.now result new q' → PopsBy st old new q q' bytes.now result →
+    DrivesOne page_size old new q q' (does.Pop bytes) (gives.Popped (Ok result))
+pop_at page_size old new q q' bytes (outcomes.On result) at.Free is proceeds by =
+    let on = subst (λ (st : state.ChainState). WalksFrom st (whole old bytes.now) old new q q' result) is proceeds.4
     in
-    drives_one _ _ (begins page_size old new q q' bytes (outcomes.On reported) is proceeds by
-    (begun_keeps old new q q' reported q.stopped is on))
-pop_at page_size old new q q' bytes outcomes.Part (at.Walking course pop_id walk) is proceeds by =
+    drives_one _ _ (begins page_size old new q q' bytes (outcomes.On result) is proceeds by
+    (begun_keeps old new q q' result q.stopped is on))
+pop_at page_size old new q q' bytes outcomes.Part (at.Popping course pop_id walk) is proceeds by =
     drives_one _ _ (continues page_size old new q q' bytes outcomes.Part course pop_id walk is proceeds by
     (part_keeps old new q q' bytes.now course pop_id walk is proceeds))
-pop_at page_size old new q q' bytes (outcomes.On reported) (at.Walking course pop_id walk) is proceeds by =
-    let on = subst (λ (st : state.ChainState). WalksFrom st (whole old bytes.now) old new q q' reported) is proceeds.4
+pop_at page_size old new q q' bytes (outcomes.On result) (at.Popping course pop_id walk) is proceeds by =
+    let on = subst (λ (st : state.ChainState). WalksFrom st (whole old bytes.now) old new q q' result) is proceeds.4
     in
-    drives_one _ _ (continues page_size old new q q' bytes (outcomes.On reported) course pop_id walk is proceeds by
-    (gone_keeps old new q q' (whole old bytes.now) reported course pop_id walk q.stopped on))
-pop_at page_size old new q q' bytes (outcomes.On reported) _ is proceeds by =
-    absurd (subst (λ (st : state.ChainState). WalksFrom st (whole old bytes.now) old new q q' reported) is proceeds.4)
+    drives_one _ _ (continues page_size old new q q' bytes (outcomes.On result) course pop_id walk is proceeds by
+    (gone_keeps old new q q' (whole old bytes.now) result course pop_id walk q.stopped on))
+pop_at page_size old new q q' bytes (outcomes.On result) _ is proceeds by =
+    absurd (subst (λ (st : state.ChainState). WalksFrom st (whole old bytes.now) old new q q' result) is proceeds.4)
 pop_at page_size old new q q' bytes outcomes.Part _ is proceeds by = absurd (no_part old bytes.now proceeds.1 (ap load_len is))
 
 pub pop_result : (old new : ChainHandle) (q q' : QueueState) (bytes : Bor (List ℕ))
     (result : Result outcome.LoadOutcome ChainError)
-    → IfOk result (λ reported. ProceedsSo old q bytes.now reported new q')
-    → IfErr result (RefusesWalk old q bytes.now)
+    → IfOk result (λ returned. ProceedsSo old q bytes.now returned new q')
+    → IfErr result (RefusesAPop old q bytes.now)
     → OnErr result (IsSame old new × (q' ≡ q))
-    → IfOk result (λ reported. PopsBy old.state old new q q' bytes.now reported)
+    → IfOk result (λ returned. PopsBy old.state old new q q' bytes.now returned)
     → (page_size : ℕ) → DrivesOne page_size old new q q' (does.Pop bytes) (gives.Popped result)
-pop_result old new q q' bytes (Ok reported) proceeds err same step page_size =
-    pop_at page_size old new q q' bytes reported old.state refl proceeds step
+pop_result old new q q' bytes (Ok returned) proceeds err same step page_size =
+    pop_at page_size old new q q' bytes returned old.state refl proceeds step
 pop_result old new q q' bytes (Err e) proceeds err same step page_size =
     subst (λ (r : QueueState). DrivesOne page_size old new q r (does.Pop bytes) (gives.Popped (Err e)))
     (sym same.1)

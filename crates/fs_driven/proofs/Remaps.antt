@@ -9,7 +9,7 @@ use Rattle.vm_memory.specs.Layout.{Region}
 use Rattle.fs_regions.specs.Places.{places_in, untranslated}
 use Rattle.live_machine.specs.Live.{InFlightChain, KeepsQueue, Remaps, RemapsSo}
 use Rattle.live_machine.proofs.Queues.{none_some, same_some}
-use Rattle.fs_chain.specs.Holds.{Machine, Pop}
+use Rattle.fs_chain.specs.Holds.{RunState, Pop}
 use Rattle.fs_chain.specs.Orders.{is_out}
 use Rattle.fs_chain.specs.Queues.{in_flight}
 use Rattle.fs_chain.specs.Together.{IsHeldBy, Owned}
@@ -18,11 +18,11 @@ use Rattle.fs_chain.specs.declared.error.ChainError.{ChainError}
 use Rattle.fs_chain.specs.declared.error.ChainError.TheVariants as error
 use Rattle.fs_chain.specs.declared.queue.QueueState.{QueueState}
 use Rattle.fs_chain.specs.declared.state.ChainState.TheVariants as at
-use Rattle.fs_driven.specs.declared.commands.Command.TheVariants as does
-use Rattle.fs_driven.specs.declared.commands.Returned.TheVariants as gives
-use Rattle.fs_driven.specs.Desks.{Begun, Driven, FitsRun, number_of}
+use Rattle.fs_driven.specs.declared.commands.DriverCall.TheVariants as does
+use Rattle.fs_driven.specs.declared.commands.Results.TheVariants as gives
+use Rattle.fs_driven.specs.Drivers.{PushUnderWay, Driven, FitsRun, number_of}
 use Rattle.fs_driven.specs.NewMemory.{HaveNone, IsErrorOf, TakeMemory, TakesMemory, are_idle, handles_error, remap_error}
-use Rattle.fs_driven.specs.Reported.{Drives, DrivesOne, call_of}
+use Rattle.fs_driven.specs.Events.{Drives, DrivesOne, call_of}
 use Rattle.fs_driven.proofs.Calls.{refuses, same_held}
 use Rattle.fs_driven.proofs.Counts.{number_one}
 use Rattle.fs_driven.proofs.Handles.{not_free}
@@ -32,21 +32,21 @@ use Rattle.fs_driven.proofs.Resets.{none_of_queue, one_of_queue}
 -- ---- no chain is in flight
 
 -- none of a queue is, by its numbers of 16 bits
-abbrev HasNone : QueueState → Type 0
-HasNone q = (in_flight q ≡ 0) × (q.max_in_flight < 2 ^ 16) × (q.next_used < 2 ^ 16)
+abbrev IsEmptyQueue : QueueState → Type 0
+IsEmptyQueue q = (in_flight q ≡ 0) × (q.max_in_flight < 2 ^ 16) × (q.next_used < 2 ^ 16)
 
-has_none : (qs : List QueueState) (i : ℕ) (q : QueueState) → HaveNone qs → slice_get qs i ≡ Some q → HasNone q
+has_none : (qs : List QueueState) (i : ℕ) (q : QueueState) → HaveNone qs → slice_get qs i ≡ Some q → IsEmptyQueue q
 has_none [] i q none there = absurd (none_some q there)
 has_none (p ∷ qs) zero q none there =
-    subst (λ (x : QueueState). HasNone x) (same_some p q there) (none.0, none.1, none.2)
+    subst (λ (x : QueueState). IsEmptyQueue x) (same_some p q there) (none.0, none.1, none.2)
 has_none (p ∷ qs) (suc i) q none there = has_none qs i q none.4 there
 
 -- the queue of a run's first chain
 abbrev HasQueue : List QueueState → Owned → Type 0
 HasQueue qs o = (q : QueueState) × (slice_get qs o.chain.queue ≡ Some q)
 
-first_queue : (s : Machine) (on : List ℕ) (page_size : ℕ) (qs : List QueueState) (ws : List ChainHandle) (o : Owned)
-    (os : List Owned) (pops : ℕ → Pop) (pushes : ℕ → Option Begun) (h : Option ℕ)
+first_queue : (s : RunState) (on : List ℕ) (page_size : ℕ) (qs : List QueueState) (ws : List ChainHandle) (o : Owned)
+    (os : List Owned) (pops : ℕ → Pop) (pushes : ℕ → Option PushUnderWay) (h : Option ℕ)
     → Driven s on page_size qs ws (o ∷ os) pops pushes → o.handle ≡ h → IsHeldBy s.page_size ws h o.chain
     → HasQueue qs o
 first_queue s on page_size qs ws o os pops pushes None all is held =
@@ -57,8 +57,8 @@ first_queue s on page_size qs ws o os pops pushes (Some k) all is held =
     (inl (ap (λ (h : Option ℕ). record { handle = h; chain = o.chain }) (sym is))) in
     (mine.1, mine.2)
 
-none_owned : (s : Machine) (on : List ℕ) (page_size : ℕ) (qs : List QueueState) (ws : List ChainHandle) (os : List Owned)
-    (pops : ℕ → Pop) (pushes : ℕ → Option Begun) → Driven s on page_size qs ws os pops pushes → HaveNone qs → os ≡ []
+none_owned : (s : RunState) (on : List ℕ) (page_size : ℕ) (qs : List QueueState) (ws : List ChainHandle) (os : List Owned)
+    (pops : ℕ → Pop) (pushes : ℕ → Option PushUnderWay) → Driven s on page_size qs ws os pops pushes → HaveNone qs → os ≡ []
 none_owned s on page_size qs ws [] pops pushes all none = refl
 none_owned s on page_size qs ws (o ∷ os) pops pushes all none =
     let q = first_queue s on page_size qs ws o os pops pushes o.handle all refl all.all.held.0 in
@@ -69,12 +69,12 @@ none_owned s on page_size qs ws (o ∷ os) pops pushes all none =
     absurd (omega (arith, few, one))
 
 -- a run without chains
-pub record Empty (s : Machine) (os : List Owned) : Type 0 where
+pub record Empty (s : RunState) (os : List Owned) : Type 0 where
   pub owned : os ≡ []
   pub chains : s.chains ≡ []
 
-pub is_empty : (s : Machine) (on : List ℕ) (page_size : ℕ) (qs : List QueueState) (ws : List ChainHandle) (os : List Owned)
-    (pops : ℕ → Pop) (pushes : ℕ → Option Begun) → Driven s on page_size qs ws os pops pushes → HaveNone qs → Empty s os
+pub is_empty : (s : RunState) (on : List ℕ) (page_size : ℕ) (qs : List QueueState) (ws : List ChainHandle) (os : List Owned)
+    (pops : ℕ → Pop) (pushes : ℕ → Option PushUnderWay) → Driven s on page_size qs ws os pops pushes → HaveNone qs → Empty s os
 is_empty s on page_size qs ws os pops pushes all none =
     let owned = none_owned s on page_size qs ws os pops pushes all none in
     record { owned = owned; chains = all.all.chains ∙ ap (λ (l : List Owned). map (λ (o : Owned). o.chain) l) owned }
@@ -102,8 +102,8 @@ pub is_free : (regions : List Region) (ws ws' : List ChainHandle) (k : ℕ) (new
 is_free regions ws ws' k new takes there =
     let r = took regions ws ws' k new takes there in r.takes.3 ∙ r.takes.0
 
-pub fits_new : (s : Machine) (on : List ℕ) (page_size : ℕ) (qs : List QueueState) (ws ws' : List ChainHandle)
-    (os : List Owned) (pops : ℕ → Pop) (pushes : ℕ → Option Begun) (regions : List Region) (k : ℕ) (new : ChainHandle)
+pub fits_new : (s : RunState) (on : List ℕ) (page_size : ℕ) (qs : List QueueState) (ws ws' : List ChainHandle)
+    (os : List Owned) (pops : ℕ → Pop) (pushes : ℕ → Option PushUnderWay) (regions : List Region) (k : ℕ) (new : ChainHandle)
     (i : ℕ) (q q' : QueueState)
     → Driven s on page_size qs ws os pops pushes → TakeMemory regions ws ws' → slice_get ws' k ≡ Some new
     → slice_get on k ≡ Some i → slice_get qs i ≡ Some q
@@ -123,7 +123,7 @@ remapped ws ws' qs alloc regions idle clear takes on page_size k =
     one_of_queue on page_size k ws ws' qs qs (does.Remap alloc regions) (gives.Remapped (Ok tt))
     (λ s os pops pushes all.
     let none = is_empty s on page_size qs ws os pops pushes all idle in
-    let after : Machine = record s { places = m } in
+    let after : RunState = record s { places = m } in
     let e : RemapsSo s m after = record {
       keeps = subst (λ (cs : List InFlightChain). AllByRecursion (KeepsQueue s m) cs) (sym none.chains) tt;
       state = refl;

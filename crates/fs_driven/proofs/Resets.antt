@@ -8,47 +8,48 @@ use Rattle.std.proofs.lemmas.Bool.{ltb-false, ltb-true}
 use Rattle.fs_queue.specs.declared.layout.QueueLayout.{QueueLayout}
 use Rattle.live_machine.specs.Several.{in_flight}
 use Rattle.live_machine.specs.Live.{InFlightChain, LiveRun, ResetsQueue, StoresNotification, after_reset}
-use Rattle.live_machine.proofs.Queues.{none_some, preserved_not, same_some, there_other}
+use Rattle.live_machine.proofs.Queues.{none_some, kept_not, same_some, there_other}
 use Rattle.vm_memory.specs.Memory.{reach}
 use Rattle.vm_iotlb.specs.declared.permissions.Permissions.TheVariants.{Write}
 use Rattle.fs_chain.specs.Events.{notification_store, store_of}
-use Rattle.fs_chain.specs.Holds.{IsQueue, Machine, Pop, any_files, live_of}
-use Rattle.fs_chain.specs.HoldsAround.{NotificationIs, Resets, StoresNotice}
+use Rattle.fs_chain.specs.Holds.{IsRunQueue, RunState, Pop, any_files, live_of}
+use Rattle.fs_chain.specs.HoldsAround.{NotificationIs, ResetsInRun, StoresNotificationInRun}
 use Rattle.fs_chain.specs.declared.notifications.NotificationStore.{NotificationStore}
 use Rattle.fs_chain.specs.Orders.{is_out}
 use Rattle.fs_chain.specs.Queues.{reset_to}
-use Rattle.fs_chain.specs.Together.{EachHasOne, HasNoMore, IsHeldBy, IsNot, Owned}
+use Rattle.fs_chain.specs.Together.{EachHasOne, HasNoneLeft, IsHeldBy, IsNot, Owned}
 use Rattle.fs_chain.specs.declared.chain_handle.ChainHandle.{ChainHandle}
 use Rattle.fs_chain.specs.declared.queue.QueueState.{QueueState}
-use Rattle.fs_driven.specs.declared.commands.Command.{Command}
-use Rattle.fs_driven.specs.declared.commands.Command.TheVariants as does
-use Rattle.fs_driven.specs.declared.commands.Returned.{Returned}
-use Rattle.fs_driven.specs.declared.commands.Returned.TheVariants as gives
-use Rattle.fs_driven.specs.Desks.{Begun, Desk, Driven, FitsRun, HasInFlight, In, IsReady, Leads, desk, lost, number_of, own}
-use Rattle.fs_driven.specs.Desks.{with_push, with_queue}
-use Rattle.fs_driven.specs.Reported.{Drives, DrivesOne, HaveNoChain, MayReset, ReportsAll, ReportsOfQueue, call_of, of_others, storing}
+use Rattle.fs_driven.specs.declared.commands.DriverCall.{DriverCall}
+use Rattle.fs_driven.specs.declared.commands.DriverCall.TheVariants as does
+use Rattle.fs_driven.specs.declared.commands.Results.{Results}
+use Rattle.fs_driven.specs.declared.commands.Results.TheVariants as gives
+use Rattle.fs_driven.specs.Drivers.{PushUnderWay, Driver, Driven, FitsRun, HasInFlight, In, CanBePushed, HasRun, driver, lost, number_of}
+use Rattle.fs_driven.specs.Drivers.{own}
+use Rattle.fs_driven.specs.Drivers.{with_push, with_queue}
+use Rattle.fs_driven.specs.Events.{Drives, DrivesOne, HaveNoChain, MayReset, EventsOfAll, EventsOfQueue, call_of, of_others, storing}
 use Rattle.fs_driven.proofs.Counts.{number_same}
-use Rattle.fs_driven.proofs.Handles.{Seen, each_queue, fits_queue, not_free}
+use Rattle.fs_driven.proofs.Handles.{CallsSeen, each_queue, fits_queue, not_free}
 use Rattle.fs_driven.proofs.Calls.{refuses, same_held}
 use Rattle.fs_driven.proofs.Lists.{nowhere, set_changed, single}
-use Rattle.fs_driven.proofs.Spots.{push_apart, push_here}
+use Rattle.fs_driven.proofs.QueuePlaces.{push_apart, push_here}
 
 -- ---- a call of a queue, or of all
 
 -- it is a run, if it leads to its events
 pub one_of_queue : (on : List ℕ) (page_size k : ℕ) (ws ws' : List ChainHandle) (qs qs' : List QueueState)
-    (command : Command) (returned : Returned)
-    → ((s : Machine) (os : List Owned) (pops : ℕ → Pop) (pushes : ℕ → Option Begun)
+    (command : DriverCall) (returned : Results)
+    → ((s : RunState) (os : List Owned) (pops : ℕ → Pop) (pushes : ℕ → Option PushUnderWay)
     → Driven s on page_size qs ws os pops pushes
-    → Leads s on page_size qs' ws'
-    (λ es d. ReportsOfQueue on (desk s ws qs os pops pushes) d command returned es))
+    → HasRun s on page_size qs' ws'
+    (λ es d. EventsOfQueue on (driver s ws qs os pops pushes) d command returned es))
     → Drives on page_size ws ws' qs qs' (call_of k command returned ∷ [])
 unfolding Drives
 one_of_queue on page_size k ws ws' qs qs' command returned leads zs calls s os pops pushes all =
     let z = single zs (call_of k command returned) calls in
     let a = leads s os pops pushes all in
-    let d : Desk = desk s ws qs os pops pushes in
-    let end : Desk = desk a.1 ws' qs' a.2 a.3 a.4 in (
+    let d : Driver = driver s ws qs os pops pushes in
+    let end : Driver = driver a.1 ws' qs' a.2 a.3 a.4 in (
       a.0,
       a.1,
       a.2,
@@ -56,15 +57,15 @@ one_of_queue on page_size k ws ws' qs qs' command returned leads zs calls s os p
       a.4,
       a.5,
       a.6,
-      subst (λ (l : List Seen). ReportsAll on page_size d l a.0 end) (sym z.1)
+      subst (λ (l : List CallsSeen). EventsOfAll on page_size d l a.0 end) (sym z.1)
           (a.0, [], end, sym (append-nil a.0), (a.5, a.6), inr (inr a.7), (refl, refl)),
     )
 
 -- a call that changes nothing
 pub none_of_queue : (on : List ℕ) (page_size k : ℕ) (ws : List ChainHandle) (qs : List QueueState)
-    (command : Command) (returned : Returned)
-    → ((s : Machine) (os : List Owned) (pops : ℕ → Pop) (pushes : ℕ → Option Begun)
-    → ReportsOfQueue on (desk s ws qs os pops pushes) (desk s ws qs os pops pushes) command returned [])
+    (command : DriverCall) (returned : Results)
+    → ((s : RunState) (os : List Owned) (pops : ℕ → Pop) (pushes : ℕ → Option PushUnderWay)
+    → EventsOfQueue on (driver s ws qs os pops pushes) (driver s ws qs os pops pushes) command returned [])
     → Drives on page_size ws ws qs qs (call_of k command returned ∷ [])
 none_of_queue on page_size k ws qs command returned reports =
     one_of_queue on page_size k ws ws qs qs command returned
@@ -139,10 +140,10 @@ chains_of_others i (o ∷ os) =
     let cs : List InFlightChain = map (λ (x : Owned). x.chain) os in
     let more = chains_of_others i os in
     others_by (λ (l : List Owned). filter f (o.chain ∷ cs) ≡ map (λ (x : Owned). x.chain) l) i o os
-    (λ is. preserved_not f o.chain cs false (ap not is) ∙ more)
-    (λ is. preserved_not f o.chain cs true (ap not is) ∙ ap (λ (l : List InFlightChain). o.chain ∷ l) more)
+    (λ is. kept_not f o.chain cs false (ap not is) ∙ more)
+    (λ is. kept_not f o.chain cs true (ap not is) ∙ ap (λ (l : List InFlightChain). o.chain ∷ l) more)
 
-no_more : (h : Option ℕ) (i : ℕ) (os : List Owned) → HasNoMore h os → HasNoMore h (of_others i os)
+no_more : (h : Option ℕ) (i : ℕ) (os : List Owned) → HasNoneLeft h os → HasNoneLeft h (of_others i os)
 no_more None i os none = tt
 no_more (Some k) i os none = all_others (λ (o : Owned). IsNot k o.handle) i os none
 
@@ -192,15 +193,15 @@ number_still i j (o ∷ os) apart =
 -- ---- a reset
 
 resets_driven : (on : List ℕ) (ws : List ChainHandle) (i : ℕ) (q : QueueState) (layout : QueueLayout) (position page_size : ℕ)
-    (qs : List QueueState) (s : Machine) (os : List Owned) (pops : ℕ → Pop) (pushes : ℕ → Option Begun)
+    (qs : List QueueState) (s : RunState) (os : List Owned) (pops : ℕ → Pop) (pushes : ℕ → Option PushUnderWay)
     → MayReset on i ws q layout → slice_get qs i ≡ Some q
-    → IsQueue (after_reset s i (live_of (reset_to q layout position))) i (reset_to q layout position)
+    → IsRunQueue (after_reset s i (live_of (reset_to q layout position))) i (reset_to q layout position)
     → Driven s on page_size qs ws os pops pushes
     → Driven (after_reset s i (live_of (reset_to q layout position))) on page_size
     (with_queue qs i (reset_to q layout position)) ws (of_others i os) pops (with_push pushes i None)
 resets_driven on ws i q layout position page_size qs s os pops pushes may there is all =
     let r : QueueState = reset_to q layout position in
-    let after : Machine = after_reset s i (live_of r) in
+    let after : RunState = after_reset s i (live_of r) in
     record {
       all = record {
         chains = ap (λ (cs : List InFlightChain). filter (λ (c : InFlightChain). not (c.queue == i)) cs) all.all.chains
@@ -208,7 +209,7 @@ resets_driven on ws i q layout position page_size qs s os pops pushes may there 
         held = all_others (λ (o : Owned). IsHeldBy s.page_size ws o.handle o.chain) i os all.all.held;
         once = once_others i os all.all.once;
       };
-      queues = each_queue qs i q r (λ (j : ℕ) (p : QueueState). IsQueue after j p) there is
+      queues = each_queue qs i q r (λ (j : ℕ) (p : QueueState). IsRunQueue after j p) there is
           (λ j p apart at. there_other s.queues i j (λ _. live_of r) apart ∙ all.queues j p at);
       page = all.page;
       small = all.small;
@@ -219,7 +220,7 @@ resets_driven on ws i q layout position page_size qs s os pops pushes may there 
             mine.0,
             mine.1,
             there_other qs i c.queue (λ _. r) apart ∙ mine.2,
-            subst (λ (b : Option Begun). IsReady page_size k mine.1 b c w.state)
+            subst (λ (b : Option PushUnderWay). CanBePushed page_size k mine.1 b c w.state)
                 (sym (push_apart pushes i c.queue None apart)) mine.3,
           );
       outs = λ k w there_w out.
@@ -249,13 +250,13 @@ resets_driven on ws i q layout position page_size qs s os pops pushes may there 
     }
 
 pub reset_done : (on : List ℕ) (ws : List ChainHandle) (i : ℕ) (q q' : QueueState) (layout : QueueLayout) (position : ℕ)
-    → MayReset on i ws q layout → q' ≡ reset_to q layout position → Resets q q'
+    → MayReset on i ws q layout → q' ≡ reset_to q layout position → ResetsInRun q q'
     → (page_size k : ℕ) (qs : List QueueState) → slice_get qs i ≡ Some q
     → Drives on page_size ws ws qs (with_queue qs i q') (call_of k (does.Reset i layout position) (gives.Reset true) ∷ [])
-unfolding Resets
+unfolding ResetsInRun
 reset_done on ws i q q' layout position may is resets page_size k qs there =
     let r : QueueState = reset_to q layout position in
-    let resets_so : Resets q r = subst (λ (x : QueueState). Resets q x) is resets in
+    let resets_so : ResetsInRun q r = subst (λ (x : QueueState). ResetsInRun q x) is resets in
     subst (λ (x : QueueState). Drives on page_size ws ws qs (with_queue qs i x)
     (call_of k (does.Reset i layout position) (gives.Reset true) ∷ [])) (sym is)
     (one_of_queue on page_size k ws ws qs (with_queue qs i r) (does.Reset i layout position) (gives.Reset true)
@@ -319,10 +320,10 @@ no_reset_of_one old new q same page_size i layout position =
 
 pub stored : (qs : List QueueState) (i : ℕ) (q : QueueState) (wanted : Bool) (store : Option NotificationStore)
     → slice_get qs i ≡ Some q
-    → option_map store_of store ≡ notification_store q wanted → StoresNotice q wanted store
+    → option_map store_of store ≡ notification_store q wanted → StoresNotificationInRun q wanted store
     → (on : List ℕ) (page_size k : ℕ) (ws : List ChainHandle)
     → Drives on page_size ws ws qs qs (call_of k (does.Notify i wanted) (gives.Store store) ∷ [])
-unfolding StoresNotice
+unfolding StoresNotificationInRun
 stored qs i q wanted store there is stores on page_size k ws =
     one_of_queue on page_size k ws ws qs qs (does.Notify i wanted) (gives.Store store)
     (λ s os pops pushes all. (
@@ -336,13 +337,13 @@ stored qs i q wanted store there is stores on page_size k ws =
       (q, there, is, refl, refl),
     ))
   where
-    by_reach : (s : Machine) (st : NotificationStore) (b : Bool) → reach s.places Write st.address 2 ≡ b →
+    by_reach : (s : RunState) (st : NotificationStore) (b : Bool) → reach s.places Write st.address 2 ≡ b →
         NotificationIs s i q wanted (Some st) →
         LiveRun any_files s (if b then StoresNotification i (store_of st) ∷ [] else []) s
     by_reach s st true mapped is = (s, is.0 mapped, refl)
     by_reach s st false mapped is = refl
 
-    by_store : (s : Machine) (st : Option NotificationStore) → NotificationIs s i q wanted st →
+    by_store : (s : RunState) (st : Option NotificationStore) → NotificationIs s i q wanted st →
         LiveRun any_files s (storing i s.places st) s
     by_store s None is = refl
     by_store s (Some st) is = by_reach s st (reach s.places Write st.address 2) refl is

@@ -11,8 +11,8 @@ use Rattle.plain_machine.specs.Step.{Calls}
 use Rattle.live_machine.specs.Live.{InFlightChain, LiveEvent, ReceivesAnswer, asked_chain}
 use Rattle.fs_chain.specs.ListingCalls.{Ending, EndsThere, FailsAt, FullAt, Unreadable}
 use Rattle.fs_chain.specs.declared.error.ChainError.{ChainError}
-use Rattle.fs_chain.specs.declared.listing.Added.{Added}
-use Rattle.fs_chain.specs.declared.listing.Added.TheVariants as added
+use Rattle.fs_chain.specs.declared.listing.AddOutcome.{AddOutcome}
+use Rattle.fs_chain.specs.declared.listing.AddOutcome.TheVariants as added
 use Rattle.fs_driven.specs.declared.entries.ListedEntry.{ListedEntry}
 
 -- an entry without a node of its own
@@ -41,12 +41,12 @@ added_as None l list_len name_len = added_plain l list_len name_len
 added_as (Some node) l list_len name_len = added_found l list_len name_len
 
 -- a listing goes on, if its first entry is refused
-abbrev pub refused_by : (added : ℕ) → Result Added ChainError → Option ChainError
-refused_by added (Ok reported) = None
+abbrev pub refused_by : (added : ℕ) → Result AddOutcome ChainError → Option ChainError
+refused_by added (Ok result) = None
 refused_by added (Err e) = if added == 0 then Some e else None
 
 -- the error with which a listing fails after this result, if it does. `failure`: that of its directory
-abbrev pub errno_after : Result Added ChainError → (failure : Option ℕ) → Option ℕ
+abbrev pub errno_after : Result AddOutcome ChainError → (failure : Option ℕ) → Option ℕ
 errno_after (Ok added.In) failure = failure
 errno_after (Ok added.Full) failure = None
 errno_after (Ok added.NoRoom) failure = Some EIO
@@ -55,7 +55,7 @@ errno_after (Err e) failure = Some EIO
 
 -- how a listing ends by the result of the first of these entries, if there is one. All are in the directory.
 -- Of one that the list has no place for, say, the directory can't be read on
-abbrev pub ending_of : Result Added ChainError → (left : List Brought) → (failure : Option ℕ) → Ending
+abbrev pub ending_of : Result AddOutcome ChainError → (left : List Brought) → (failure : Option ℕ) → Ending
 ending_of (Ok added.In) left None = EndsThere
 ending_of (Ok added.In) left (Some errno) = Unreadable errno
 ending_of (Ok added.Full) (e ∷ left) failure = FullAt e (entries_of left)
@@ -64,7 +64,7 @@ ending_of (Ok added.TooLong) (e ∷ left) failure = FailsAt e (entries_of left) 
 ending_of last left failure = Unreadable EIO
 
 -- each entry was added, or the result is that of one that wasn't
-abbrev pub IsOfLast : Result Added ChainError → (left : List Brought) → Type 0
+abbrev pub IsOfLast : Result AddOutcome ChainError → (left : List Brought) → Type 0
 IsOfLast (Ok added.In) left = left ≡ []
 IsOfLast last [] = ⊥
 IsOfLast last (e ∷ left) = Unit {0}

@@ -1,9 +1,9 @@
 pub mod Adding
 pub mod Begins
-pub mod Desks
+pub mod Drivers
 pub mod Entries
 pub mod Moving
 pub mod NewMemory
-pub mod Preserved
-pub mod Reported
+pub mod Kept
+pub mod Events
 pub mod Served

@@ -13,7 +13,7 @@ use Rattle.fs_chain.specs.declared.chain_handle.ChainHandle.{ChainHandle}
 use Rattle.fs_chain.specs.declared.error.ChainError.{ChainError}
 use Rattle.fs_chain.specs.declared.error.ChainError.TheVariants as error
 use Rattle.fs_chain.specs.declared.queue.QueueState.{QueueState}
-use Rattle.fs_driven.specs.Desks.{Desk}
+use Rattle.fs_driven.specs.Drivers.{Driver}
 use Rattle.fs_driven.specs.NewMemory.{IsErrorOf, TakeMemory, remap_error}
 
 -- from one chain to as many as the queue has descriptors may be in flight
@@ -45,13 +45,13 @@ moving queues vs m =
     if length queues == length vs then MovesDevice m vs ∷ [] else resetting 0 vs ++ Remaps m ∷ []
 
 -- they are the events of a move that is made; otherwise there are none
-abbrev pub MoveReports : (d d' : Desk) → List Region → Result (Unit {0}) ChainError → List LiveEvent → Type 0
-MoveReports d d' regions (Ok done) es =
+abbrev pub MoveEvents : (d d' : Driver) → List Region → Result (Unit {0}) ChainError → List LiveEvent → Type 0
+MoveEvents d d' regions (Ok done) es =
     (es ≡ moving d.run.queues (map live_of d'.queues) (places_in (untranslated regions)))
     × (move_error d.handles d.queues regions ≡ None)
     × TakeMemory regions d.handles d'.handles
     × (d'.queues ≡ map restored d.queues)
     × (d.owned ≡ [])
     × (d'.owned ≡ [])
-MoveReports d d' regions (Err e) es =
+MoveEvents d d' regions (Err e) es =
     (es ≡ []) × (d' ≡ d) × IsErrorOf (move_error d.handles d.queues regions) (length regions) e

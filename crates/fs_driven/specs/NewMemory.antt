@@ -13,7 +13,7 @@ use Rattle.fs_chain.specs.declared.error.ChainError.{ChainError}
 use Rattle.fs_chain.specs.declared.error.ChainError.TheVariants as error
 use Rattle.fs_chain.specs.declared.queue.QueueState.{QueueState}
 use Rattle.fs_chain.specs.declared.state.ChainState.TheVariants as at
-use Rattle.fs_driven.specs.Desks.{Desk}
+use Rattle.fs_driven.specs.Drivers.{Driver}
 
 -- why regions aren't a memory
 abbrev pub regions_error : List Region → Option ChainError
@@ -60,7 +60,7 @@ TakesMemory regions old new =
     × (new.state ≡ old.state)
     × (new.part ≡ old.part)
     × (new.session ≡ old.session)
-    × (new.serial ≡ old.serial)
+    × (new.ticket ≡ old.ticket)
     × (new.list_len ≡ old.list_len)
 
 -- each of them has
@@ -71,13 +71,14 @@ TakeMemory regions (old ∷ olds) [] = ⊥
 TakeMemory regions (old ∷ olds) (new ∷ news) = TakesMemory regions old new × TakeMemory regions olds news
 
 -- the event of new memory, while no chain is in flight; or none, if it isn't set
-abbrev pub RemapReports : (d d' : Desk) → List Region → Result (Unit {0}) ChainError → List LiveEvent → Type 0
-RemapReports d d' regions (Ok done) es =
+abbrev pub RemapEvents : (d d' : Driver) → List Region → Result (Unit {0}) ChainError → List LiveEvent →
+    Type 0
+RemapEvents d d' regions (Ok done) es =
     (es ≡ Remaps (places_in (untranslated regions)) ∷ [])
     × (remap_error d.handles d.queues regions ≡ None)
     × TakeMemory regions d.handles d'.handles
     × (d'.queues ≡ d.queues)
     × (d.owned ≡ [])
     × (d'.owned ≡ [])
-RemapReports d d' regions (Err e) es =
+RemapEvents d d' regions (Err e) es =
     (es ≡ []) × (d' ≡ d) × IsErrorOf (remap_error d.handles d.queues regions) (length regions) e

@@ -16,10 +16,10 @@ use Rattle.live_machine.specs.Several.{LiveQueue}
 use Rattle.fs_chain.specs.declared.loads.LoadOutcome.TheVariants as outcomes
 use Rattle.fs_chain.specs.declared.popping.PopOutcome.TheVariants as shows
 use Rattle.fs_chain.specs.declared.queue.QueueState.{QueueState}
-use Rattle.fs_driven.specs.Desks.{Desk, Driven}
-use Rattle.fs_driven.specs.Reported.{Called, ReportsAll, Unseen}
-use Rattle.fs_driven.specs.declared.commands.Returned.{Returned}
-use Rattle.fs_driven.specs.declared.commands.Returned.TheVariants as gives
+use Rattle.fs_driven.specs.Drivers.{Driver, Driven}
+use Rattle.fs_driven.specs.Events.{Called, EventsOfAll, Unseen}
+use Rattle.fs_driven.specs.declared.commands.Results.{Results}
+use Rattle.fs_driven.specs.declared.commands.Results.TheVariants as gives
 
 -- 1 for a pop with this result, of any kind; without a chain; refused; and 0 for others
 abbrev pub any_end : comes.CourseStep → ℕ
@@ -79,14 +79,14 @@ IdleFindsNone {F} may =
 -- ---- by what a driver's calls returned
 
 -- 1 for a call that returned a chain which it popped, or that ended a push; and 0 for others
-abbrev pub is_chain : Returned → ℕ
+abbrev pub is_chain : Results → ℕ
 is_chain (gives.Popped (Ok (outcomes.On (shows.Chain head request_len room_len)))) = 1
 is_chain (gives.Popped (Ok (outcomes.On (shows.Faulty head fault)))) = 1
 is_chain (gives.PoppedAhead (Ok (shows.Chain head request_len room_len))) = 1
 is_chain (gives.PoppedAhead (Ok (shows.Faulty head fault))) = 1
 is_chain _ = 0
 
-abbrev pub is_push : Returned → ℕ
+abbrev pub is_push : Results → ℕ
 is_push (gives.Ended (Ok notice)) = 1
 is_push _ = 0
 
@@ -96,7 +96,7 @@ is_of i None = false
 is_of i (Some j) = j == i
 
 -- how many of these calls, of handles of queue i, returned so
-abbrev pub returned_on : (on : List ℕ) → (kind : Returned → ℕ) → (i : ℕ) → List (Called × Unseen) → ℕ
+abbrev pub returned_on : (on : List ℕ) → (kind : Results → ℕ) → (i : ℕ) → List (Called × Unseen) → ℕ
 returned_on on kind i [] = 0
 returned_on on kind i (z ∷ zs) =
     (if is_of i (slice_get on z.0.place) then kind z.0.returned else 0) + returned_on on kind i zs
@@ -106,10 +106,10 @@ returned_on on kind i (z ∷ zs) =
 -- still in flight
 abbrev pub DriverServes : Type 0
 DriverServes =
-    (on : List ℕ) (page_size : ℕ) (d d' : Desk) (zs : List (Called × Unseen)) (es : List LiveEvent) (i : ℕ)
+    (on : List ℕ) (page_size : ℕ) (d d' : Driver) (zs : List (Called × Unseen)) (es : List LiveEvent) (i : ℕ)
     (q : QueueState) →
     Driven d.run on page_size d.queues d.handles d.owned d.pops d.pushes →
-    ReportsAll on page_size d zs es d' →
+    EventsOfAll on page_size d zs es d' →
     slice_get d.queues i ≡ Some q →
     in_flight_on i d.run.chains ≡ [] →
     AllByRecursion (NoReset i) es →

@@ -5,15 +5,15 @@ ghost use Rattle.std.specs.Prelude.{◌≡◌, ◌∷◌, [], ℕ, Bool, List, S
 ghost use Rattle.fs_chain.specs.Orders.{is_out};
 ghost use Rattle.fs_chain.specs.declared.chain_handle.ChainHandle.{ChainHandle};
 ghost use Rattle.fs_chain.specs.declared.queue.QueueState.{QueueState};
-ghost use Rattle.fs_driven.specs.Desks.{with_queue};
-ghost use Rattle.fs_driven.specs.Reported.{Drives, DrivesOne, HaveNoChain, MayReset, call_of, calls_of};
-ghost use Rattle.fs_driven.specs.declared.commands.Command.TheVariants as does;
-ghost use Rattle.fs_driven.specs.declared.commands.Returned.TheVariants as gives;
+ghost use Rattle.fs_driven.specs.Drivers.{with_queue};
+ghost use Rattle.fs_driven.specs.Events.{Drives, DrivesOne, HaveNoChain, MayReset, call_of, calls_of};
+ghost use Rattle.fs_driven.specs.declared.commands.DriverCall.TheVariants as does;
+ghost use Rattle.fs_driven.specs.declared.commands.Results.TheVariants as gives;
 
 use crate::entries::{ListedEntry, drive_gather};
 use crate::new_memory::{drive_move, drive_remap};
 use fs_chain::{
-    Added, ChainError, ChainHandle, Decoded, LoadOutcome, NotificationStore, PopOutcome,
+    AddOutcome, ChainError, ChainHandle, Decoded, LoadOutcome, NotificationStore, PopOutcome,
     PushStores, QueueState, Replied,
 };
 use fs_queue::QueueLayout;
@@ -26,7 +26,7 @@ use std::mem;
 
 /// A command for a handle.
 #[derive(Drop)]
-pub enum Command<'a> {
+pub enum DriverCall<'a> {
     /// Pops, with these loaded bytes.
     Pop(&'a [u8]),
     /// Pops by loads that were made ahead, whose bytes lie one behind another.
@@ -67,7 +67,7 @@ pub enum Command<'a> {
 
 /// What a command returned.
 #[derive(Drop)]
-pub enum Returned<'a> {
+pub enum Results<'a> {
     /// There is no such handle, or it has no queue.
     NoHandle,
     /// There is no such queue.
@@ -87,7 +87,7 @@ pub enum Returned<'a> {
     /// Of a listing's entries and its end: how many were added; the result of the entry behind them, by
     /// which the listing ends, or `In` if there is none; the length of its data, or an error if nothing
     /// changed; and a list that begins with the data.
-    Gathered(usize, Result<Added, ChainError>, Result<usize, ChainError>, [u8; 4096]),
+    Gathered(usize, Result<AddOutcome, ChainError>, Result<usize, ChainError>, [u8; 4096]),
     /// Of a reply.
     Replied(Result<(), ChainError>),
     /// Of a push: its stores, and a buffer that begins with the reply's front.
@@ -131,13 +131,13 @@ pub fn drive_decode<'a>(
 pub fn drive_answer(
     handle: &mut ChainHandle,
     queue: &QueueState,
-    serial: u32,
+    ticket: u32,
     answer: FileAnswer,
 ) -> Result<Replied, ChainError>
     ensures step { (page_size : ℕ) → DrivesOne page_size handle.old handle.new queue.now queue.now
-        (does.Answer serial answer) (gives.Answered result) }
+        (does.Answer ticket answer) (gives.Answered result) }
 {
-    handle.answer(serial, answer)
+    handle.answer(ticket, answer)
 }
 
 /// Ends a listing to which no entry was added: its directory has no more.
@@ -145,12 +145,12 @@ pub fn drive_answer(
 pub fn drive_end_listing(
     handle: &mut ChainHandle,
     queue: &QueueState,
-    serial: u32,
+    ticket: u32,
 ) -> Result<usize, ChainError>
     ensures step { (page_size : ℕ) → DrivesOne page_size handle.old handle.new queue.now queue.now
-        (does.EndListing serial) (gives.Listed result) }
+        (does.EndListing ticket) (gives.Listed result) }
 {
-    handle.end(serial)
+    handle.end(ticket)
 }
 
 /// Ends a listing to which no entry was added: its directory can't be read.
@@ -158,13 +158,13 @@ pub fn drive_end_listing(
 pub fn drive_fail_listing(
     handle: &mut ChainHandle,
     queue: &QueueState,
-    serial: u32,
+    ticket: u32,
     error: Errno,
 ) -> Result<usize, ChainError>
     ensures step { (page_size : ℕ) → DrivesOne page_size handle.old handle.new queue.now queue.now
-        (does.FailListing serial error) (gives.Listed result) }
+        (does.FailListing ticket error) (gives.Listed result) }
 {
-    handle.fail(serial, error)
+    handle.fail(ticket, error)
 }
 
 /// Gives up a handle's chain, or its pop.
@@ -258,13 +258,13 @@ pub fn drive_ahead(
 pub fn drive_reply(
     handle: &mut ChainHandle,
     queue: &QueueState,
-    serial: u32,
+    ticket: u32,
     len: usize,
 ) -> Result<(), ChainError>
     ensures step { (page_size : ℕ) → DrivesOne page_size handle.old handle.new queue.now queue.now
-        (does.Reply serial len) (gives.Replied result) }
+        (does.Reply ticket len) (gives.Replied result) }
 {
-    handle.reply(serial, len)
+    handle.reply(ticket, len)
 }
 
 // Decodes a request in a session of this page size, and in no other.
@@ -275,39 +275,39 @@ fn decode_if<'a>(
     page_size: u32,
     session: Session,
     request: &'a [u8],
-) -> Returned<'a>
+) -> Results<'a>
     ensures step { DrivesOne page_size handle.old handle.new queue.now queue.now
         (does.Decode session request.entry) result }
 {
     if session.page_size() == page_size {
-        return Returned::Decoded(drive_decode(handle, queue, session, request));
+        return Results::Decoded(drive_decode(handle, queue, session, request));
     }
-    Returned::OtherSession
+    Results::OtherSession
 }
 
 // Begins a push, and keeps its stores and front.
-fn begin_push<'a>(handle: &mut ChainHandle, queue: &mut QueueState) -> Returned<'a>
+fn begin_push<'a>(handle: &mut ChainHandle, queue: &mut QueueState) -> Results<'a>
     ensures step { (page_size : ℕ) → DrivesOne page_size handle.old handle.new queue.old queue.new
         does.Push result }
 {
     let (stores, front) = drive_push(handle, queue);
-    Returned::Began(stores, front)
+    Results::Began(stores, front)
 }
 
 // Lists entries, and keeps what its calls returned.
 fn gather<'a>(
     handle: &mut ChainHandle,
     queue: &QueueState,
-    serial: u32,
+    ticket: u32,
     entries: &[ListedEntry],
     names: &[u8],
     failure: Option<Errno>,
-) -> Returned<'a>
+) -> Results<'a>
     ensures step { (page_size : ℕ) → DrivesOne page_size handle.old handle.new queue.now queue.now
-        (does.Gather serial entries.entry names.entry failure) result }
+        (does.Gather ticket entries.entry names.entry failure) result }
 {
-    let (added, last, ended, list) = drive_gather(handle, queue, serial, entries, names, failure);
-    Returned::Gathered(added, last, ended, list)
+    let (added, last, ended, list) = drive_gather(handle, queue, ticket, entries, names, failure);
+    Results::Gathered(added, last, ended, list)
 }
 
 // A reset isn't done for one handle alone.
@@ -318,20 +318,20 @@ fn no_reset_of_one<'a>(
     number: usize,
     layout: QueueLayout,
     position: u16,
-) -> Returned<'a>
+) -> Results<'a>
     ensures step { (page_size : ℕ) → DrivesOne page_size handle.old handle.new queue.now queue.now
         (does.Reset number layout position) result }
 {
-    Returned::NotOfOne
+    Results::NotOfOne
 }
 
 // Nor is a store of a queue.
 #[tactic(auto, using(crate::proofs::Resets::no_store_of_one))]
-fn no_store_of_one<'a>(handle: &mut ChainHandle, queue: &QueueState) -> Returned<'a>
+fn no_store_of_one<'a>(handle: &mut ChainHandle, queue: &QueueState) -> Results<'a>
     ensures step { (page_size number : ℕ) (wanted : Bool) →
         DrivesOne page_size handle.old handle.new queue.now queue.now (does.Notify number wanted) result }
 {
-    Returned::NotOfOne
+    Results::NotOfOne
 }
 
 // Nor is new memory.
@@ -341,11 +341,11 @@ fn no_memory_of_one<'a>(
     queue: &QueueState,
     alloc: Global,
     regions: &'a [MemoryRegion],
-) -> Returned<'a>
+) -> Results<'a>
     ensures step { (page_size : ℕ) → DrivesOne page_size handle.old handle.new queue.now queue.now
         (does.Remap alloc regions.entry) result }
 {
-    Returned::NotOfOne
+    Results::NotOfOne
 }
 
 // Nor is a move.
@@ -355,11 +355,11 @@ fn no_move_of_one<'a>(
     queue: &QueueState,
     alloc: Global,
     regions: &'a [MemoryRegion],
-) -> Returned<'a>
+) -> Results<'a>
     ensures step { (page_size : ℕ) → DrivesOne page_size handle.old handle.new queue.now queue.now
         (does.Move alloc regions.entry) result }
 {
-    Returned::NotOfOne
+    Results::NotOfOne
 }
 
 /// Performs a command for a handle, and returns what it returned. `Push` takes its place.
@@ -367,43 +367,43 @@ pub fn drive_one<'a>(
     handle: &mut ChainHandle,
     queue: &mut QueueState,
     page_size: u32,
-    command: &mut Command<'a>,
-) -> Returned<'a>
+    command: &mut DriverCall<'a>,
+) -> Results<'a>
     ensures step { DrivesOne page_size handle.old handle.new queue.old queue.new command.old result }
 {
-    let command = mem::replace(command, Command::Push);
+    let command = mem::replace(command, DriverCall::Push);
     match command {
-        Command::Pop(loaded) => Returned::Popped(drive_pop(handle, queue, loaded)),
-        Command::PopAhead(ahead, bytes) => {
-            Returned::PoppedAhead(drive_ahead(handle, queue, ahead, bytes))
+        DriverCall::Pop(loaded) => Results::Popped(drive_pop(handle, queue, loaded)),
+        DriverCall::PopAhead(ahead, bytes) => {
+            Results::PoppedAhead(drive_ahead(handle, queue, ahead, bytes))
         }
-        Command::Decode(session, request) => {
+        DriverCall::Decode(session, request) => {
             decode_if(handle, queue, page_size, session, request)
         }
-        Command::Answer(serial, answer) => {
-            Returned::Answered(drive_answer(handle, queue, serial, answer))
+        DriverCall::Answer(ticket, answer) => {
+            Results::Answered(drive_answer(handle, queue, ticket, answer))
         }
-        Command::EndListing(serial) => Returned::Listed(drive_end_listing(handle, queue, serial)),
-        Command::FailListing(serial, error) => {
-            Returned::Listed(drive_fail_listing(handle, queue, serial, error))
+        DriverCall::EndListing(ticket) => Results::Listed(drive_end_listing(handle, queue, ticket)),
+        DriverCall::FailListing(ticket, error) => {
+            Results::Listed(drive_fail_listing(handle, queue, ticket, error))
         }
-        Command::Gather(serial, entries, names, failure) => {
-            gather(handle, queue, serial, entries, names, failure)
+        DriverCall::Gather(ticket, entries, names, failure) => {
+            gather(handle, queue, ticket, entries, names, failure)
         }
-        Command::Reply(serial, len) => Returned::Replied(drive_reply(handle, queue, serial, len)),
-        Command::Push => begin_push(handle, queue),
-        Command::Pushed(seen) => Returned::Ended(drive_pushed(handle, queue, seen)),
-        Command::GiveUp => Returned::GaveUp(drive_give_up(handle, queue)),
-        Command::Abandon => {
+        DriverCall::Reply(ticket, len) => Results::Replied(drive_reply(handle, queue, ticket, len)),
+        DriverCall::Push => begin_push(handle, queue),
+        DriverCall::Pushed(seen) => Results::Ended(drive_pushed(handle, queue, seen)),
+        DriverCall::GiveUp => Results::GaveUp(drive_give_up(handle, queue)),
+        DriverCall::Abandon => {
             drive_abandon(handle, queue);
-            Returned::Abandoned
+            Results::Abandoned
         }
-        Command::Reset(number, layout, position) => {
+        DriverCall::Reset(number, layout, position) => {
             no_reset_of_one(handle, queue, number, layout, position)
         }
-        Command::Notify(_, _) => no_store_of_one(handle, queue),
-        Command::Remap(alloc, regions) => no_memory_of_one(handle, queue, alloc, regions),
-        Command::Move(alloc, regions) => no_move_of_one(handle, queue, alloc, regions),
+        DriverCall::Notify(_, _) => no_store_of_one(handle, queue),
+        DriverCall::Remap(alloc, regions) => no_memory_of_one(handle, queue, alloc, regions),
+        DriverCall::Move(alloc, regions) => no_move_of_one(handle, queue, alloc, regions),
     }
 }
 
@@ -481,28 +481,28 @@ pub fn drive_reset<'a>(
     number: usize,
     layout: QueueLayout,
     position: u16,
-) -> Returned<'a>
+) -> Results<'a>
     ensures step { (page_size k : ℕ) →
         Drives on.now page_size handles.now handles.now queues.old queues.new
         (call_of k (does.Reset number layout position) result ∷ []) }
 {
     if number < queues.len() {
-        return Returned::Reset(reset(handles, on, number, &mut queues[number], layout, position));
+        return Results::Reset(reset(handles, on, number, &mut queues[number], layout, position));
     }
-    Returned::NoQueue
+    Results::NoQueue
 }
 
 /// The store that enables the driver's notifications of new chains of a queue, or disables them, if there is
 /// a queue with this number.
 #[tactic(auto, using(crate::proofs::Resets::stored, crate::proofs::Resets::no_queue_to_notify))]
-pub fn drive_notify<'a>(queues: &[QueueState], number: usize, wanted: bool) -> Returned<'a>
+pub fn drive_notify<'a>(queues: &[QueueState], number: usize, wanted: bool) -> Results<'a>
     ensures step { (on : List ℕ) (page_size k : ℕ) (ws : List ChainHandle) →
         Drives on page_size ws ws queues.now queues.now (call_of k (does.Notify number wanted) result ∷ []) }
 {
     if number < queues.len() {
-        return Returned::Store(queues[number].notification_store(wanted));
+        return Results::Store(queues[number].notification_store(wanted));
     }
-    Returned::NoQueue
+    Results::NoQueue
 }
 
 /// Performs a command for one of several handles, and returns what it returned. `on`: the number of each
@@ -514,31 +514,31 @@ pub fn drive<'a>(
     queues: &mut [QueueState],
     on: &[usize],
     page_size: u32,
-    command: &mut Command<'a>,
-) -> Returned<'a>
+    command: &mut DriverCall<'a>,
+) -> Results<'a>
     ensures step { Drives on.now page_size handles.old handles.new queues.old queues.new
         (call_of k command.old result ∷ []) }
 {
-    if let Command::Reset(number, layout, position) = command {
+    if let DriverCall::Reset(number, layout, position) = command {
         return drive_reset(handles, queues, on, *number, *layout, *position);
     }
-    if let Command::Notify(number, wanted) = command {
+    if let DriverCall::Notify(number, wanted) = command {
         return drive_notify(queues, *number, *wanted);
     }
-    if let Command::Remap(alloc, regions) = command {
-        return Returned::Remapped(drive_remap(*alloc, handles, queues, regions));
+    if let DriverCall::Remap(alloc, regions) = command {
+        return Results::Remapped(drive_remap(*alloc, handles, queues, regions));
     }
-    if let Command::Move(alloc, regions) = command {
-        return Returned::Moved(drive_move(*alloc, handles, queues, regions));
+    if let DriverCall::Move(alloc, regions) = command {
+        return Results::Moved(drive_move(*alloc, handles, queues, regions));
     }
     if k >= handles.len() || k >= on.len() {
-        return Returned::NoHandle;
+        return Results::NoHandle;
     }
     let number = on[k];
     if number < queues.len() {
         return drive_one(&mut handles[k], &mut queues[number], page_size, command);
     }
-    Returned::NoHandle
+    Results::NoHandle
 }
 
 // Performs a command, and keeps what it returned.
@@ -548,14 +548,14 @@ fn perform<'a>(
     queues: &mut [QueueState],
     on: &[usize],
     page_size: u32,
-    command: &mut Command<'a>,
-    returned: &mut Returned<'a>,
+    command: &mut DriverCall<'a>,
+    returned: &mut Results<'a>,
 )
     ensures step { Drives on.now page_size handles.old handles.new queues.old queues.new
         (call_of k command.old returned.new ∷ []) }
 {
-    let reported = drive(handles, k, queues, on, page_size, command);
-    let _old = mem::replace(returned, reported);
+    let done = drive(handles, k, queues, on, page_size, command);
+    let _old = mem::replace(returned, done);
 }
 
 /// Performs commands one behind another, each for the handle in its place, and keeps what each returned: a
@@ -569,8 +569,8 @@ pub fn drive_all<'a>(
     on: &[usize],
     page_size: u32,
     places: &[usize],
-    commands: &mut [Command<'a>],
-    returned: &mut [Returned<'a>],
+    commands: &mut [DriverCall<'a>],
+    returned: &mut [Results<'a>],
 )
     ensures step { Drives on.now page_size handles.old handles.new queues.old queues.new
         (calls_of places.now commands.old returned.new) }

@@ -3,11 +3,11 @@
 ghost use Rattle.std.specs.Prelude.{◌≡◌, ◌<◌, ◌^◌, ℕ, drop, take};
 ghost use Rattle.fs_driven.specs.Adding.{BringsAll, BringsOne, EndsSo, EndsUnless};
 ghost use Rattle.fs_driven.specs.Entries.{errno_after, refused_by};
-ghost use Rattle.fs_driven.specs.Reported.{DrivesOne};
-ghost use Rattle.fs_driven.specs.declared.commands.Command.TheVariants as does;
-ghost use Rattle.fs_driven.specs.declared.commands.Returned.TheVariants as gives;
+ghost use Rattle.fs_driven.specs.Events.{DrivesOne};
+ghost use Rattle.fs_driven.specs.declared.commands.DriverCall.TheVariants as does;
+ghost use Rattle.fs_driven.specs.declared.commands.Results.TheVariants as gives;
 
-use fs_chain::{Added, ChainError, ChainHandle, QueueState};
+use fs_chain::{AddOutcome, ChainError, ChainHandle, QueueState};
 use fuse_fs::{DirEntry, Entry};
 use fuse_wire::Errno;
 
@@ -53,12 +53,12 @@ fn copied(node: &Entry<u64>) -> Entry<u64>
 #[tactic(auto, using(crate::proofs::Bringing::brings_plain, crate::proofs::Bringing::brings_found))]
 fn bring(
     handle: &mut ChainHandle,
-    serial: u32,
+    ticket: u32,
     list: &mut [u8],
     entry: &ListedEntry,
     name: &[u8],
-) -> Result<Added, ChainError>
-    ensures one { BringsOne handle.old handle.new serial list.old list.new entry.now name.now result }
+) -> Result<AddOutcome, ChainError>
+    ensures one { BringsOne handle.old handle.new ticket list.old list.new entry.now name.now result }
 {
     let dir = DirEntry {
         ino: entry.ino,
@@ -67,8 +67,8 @@ fn bring(
         name,
     };
     match &entry.node {
-        None => handle.add(serial, list, &dir),
-        Some(node) => handle.add_with_node(serial, list, &dir, copied(node)),
+        None => handle.add(ticket, list, &dir),
+        Some(node) => handle.add_with_node(ticket, list, &dir, copied(node)),
     }
 }
 
@@ -87,26 +87,26 @@ fn name_of(names: &[u8], len: usize) -> (&[u8], &[u8])
 // of the last call.
 fn bring_all(
     handle: &mut ChainHandle,
-    serial: u32,
+    ticket: u32,
     list: &mut [u8],
     entries: &[ListedEntry],
     names: &[u8],
-) -> (usize, Result<Added, ChainError>)
-    ensures all { BringsAll handle.old handle.new serial list.old list.new entries.now names.now result.0
+) -> (usize, Result<AddOutcome, ChainError>)
+    ensures all { BringsAll handle.old handle.new ticket list.old list.new entries.now names.now result.0
         result.1 }
 {
     match entries.split_first() {
-        None => (0, Ok(Added::In)),
+        None => (0, Ok(AddOutcome::In)),
         Some((entry, more)) => {
             let (name, others) = name_of(names, entry.name_len);
-            match bring(handle, serial, list, entry, name) {
-                Ok(Added::In) => {
-                    let (added, last) = bring_all(handle, serial, list, more, others);
+            match bring(handle, ticket, list, entry, name) {
+                Ok(AddOutcome::In) => {
+                    let (added, last) = bring_all(handle, ticket, list, more, others);
                     (added + 1, last)
                 }
-                Ok(Added::Full) => (0, Ok(Added::Full)),
-                Ok(Added::NoRoom) => (0, Ok(Added::NoRoom)),
-                Ok(Added::TooLong) => (0, Ok(Added::TooLong)),
+                Ok(AddOutcome::Full) => (0, Ok(AddOutcome::Full)),
+                Ok(AddOutcome::NoRoom) => (0, Ok(AddOutcome::NoRoom)),
+                Ok(AddOutcome::TooLong) => (0, Ok(AddOutcome::TooLong)),
                 Err(e) => (0, Err(e)),
             }
         }
@@ -114,7 +114,7 @@ fn bring_all(
 }
 
 // The error of a listing whose first entry is refused: it goes on.
-fn refused_by(added: usize, last: Result<Added, ChainError>) -> Option<ChainError>
+fn refused_by(added: usize, last: Result<AddOutcome, ChainError>) -> Option<ChainError>
     ensures { result ≡ refused_by added last }
 {
     match last {
@@ -129,25 +129,25 @@ fn refused_by(added: usize, last: Result<Added, ChainError>) -> Option<ChainErro
 }
 
 // The error with which a listing fails after this result, if it does.
-fn errno_after(last: Result<Added, ChainError>, failure: Option<Errno>) -> Option<Errno>
+fn errno_after(last: Result<AddOutcome, ChainError>, failure: Option<Errno>) -> Option<Errno>
     ensures { result ≡ errno_after last failure }
 {
     match last {
-        Ok(Added::In) => failure,
-        Ok(Added::Full) => None,
-        Ok(Added::NoRoom) => Some(Errno::EIO),
-        Ok(Added::TooLong) => Some(Errno::EOVERFLOW),
+        Ok(AddOutcome::In) => failure,
+        Ok(AddOutcome::Full) => None,
+        Ok(AddOutcome::NoRoom) => Some(Errno::EIO),
+        Ok(AddOutcome::TooLong) => Some(Errno::EOVERFLOW),
         Err(_) => Some(Errno::EIO),
     }
 }
 
 // Ends a listing with its entries, or with an error.
-fn end_by(handle: &mut ChainHandle, serial: u32, errno: Option<Errno>) -> Result<usize, ChainError>
-    ensures ends { EndsSo errno handle.old handle.new serial result }
+fn end_by(handle: &mut ChainHandle, ticket: u32, errno: Option<Errno>) -> Result<usize, ChainError>
+    ensures ends { EndsSo errno handle.old handle.new ticket result }
 {
     match errno {
-        None => handle.end(serial),
-        Some(errno) => handle.fail(serial, errno),
+        None => handle.end(ticket),
+        Some(errno) => handle.fail(ticket, errno),
     }
 }
 
@@ -155,17 +155,17 @@ fn end_by(handle: &mut ChainHandle, serial: u32, errno: Option<Errno>) -> Result
 #[tactic(auto, using(crate::proofs::Gathers::ends_not, crate::proofs::Gathers::ends_on))]
 fn end_after(
     handle: &mut ChainHandle,
-    serial: u32,
+    ticket: u32,
     added: usize,
-    last: Result<Added, ChainError>,
+    last: Result<AddOutcome, ChainError>,
     failure: Option<Errno>,
 ) -> Result<usize, ChainError>
-    ensures ends { EndsUnless (refused_by added last) (errno_after last failure) handle.old handle.new serial
+    ensures ends { EndsUnless (refused_by added last) (errno_after last failure) handle.old handle.new ticket
         result }
 {
     match refused_by(added, last) {
         Some(e) => Err(e),
-        None => end_by(handle, serial, errno_after(last, failure)),
+        None => end_by(handle, ticket, errno_after(last, failure)),
     }
 }
 
@@ -173,18 +173,22 @@ fn end_after(
 fn gather_into(
     handle: &mut ChainHandle,
     queue: &QueueState,
-    serial: u32,
+    ticket: u32,
     list: &mut [u8],
     entries: &[ListedEntry],
     names: &[u8],
     failure: Option<Errno>,
-) -> (usize, Result<Added, ChainError>, Result<usize, ChainError>)
+) -> (
+    usize,
+    Result<AddOutcome, ChainError>,
+    Result<usize, ChainError>,
+)
     ensures step { (page_size : ℕ) → DrivesOne page_size handle.old handle.new queue.now queue.now
-        (does.Gather serial entries.entry names.entry failure)
+        (does.Gather ticket entries.entry names.entry failure)
         (gives.Gathered result.0 result.1 result.2 list.new) }
 {
-    let (added, last) = bring_all(handle, serial, list, entries, names);
-    let ended = end_after(handle, serial, added, last, failure);
+    let (added, last) = bring_all(handle, ticket, list, entries, names);
+    let ended = end_after(handle, ticket, added, last, failure);
     (added, last, ended)
 }
 
@@ -195,23 +199,23 @@ fn gather_into(
 pub fn drive_gather(
     handle: &mut ChainHandle,
     queue: &QueueState,
-    serial: u32,
+    ticket: u32,
     entries: &[ListedEntry],
     names: &[u8],
     failure: Option<Errno>,
 ) -> (
     usize,
-    Result<Added, ChainError>,
+    Result<AddOutcome, ChainError>,
     Result<usize, ChainError>,
     [u8; 4096],
 )
     ensures step { (page_size : ℕ) → DrivesOne page_size handle.old handle.new queue.now queue.now
-        (does.Gather serial entries.entry names.entry failure)
+        (does.Gather ticket entries.entry names.entry failure)
         (gives.Gathered result.0 result.1 result.2 result.3) }
 {
     let mut list = [0; 4096];
     let (added, last, ended) = gather_into(
-        handle, queue, serial, &mut list, entries, names, failure,
+        handle, queue, ticket, &mut list, entries, names, failure,
     );
     (added, last, ended, list)
 }

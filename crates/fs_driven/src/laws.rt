@@ -1,6 +1,6 @@
 //! Theorems about the definitions, as contracts of functions that do nothing.
 
-ghost use Rattle.fs_driven.specs.Desks.{BeginsDriven};
+ghost use Rattle.fs_driven.specs.Drivers.{BeginsDriven};
 ghost use Rattle.fs_driven.specs.Served.{DriverServes, EachIsServed, IdleFindsNone};
 
 use fuse_fs::FileSystem;

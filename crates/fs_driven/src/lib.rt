@@ -12,7 +12,7 @@ pub mod tickets;
 pub mod two_chains;
 
 pub use commands::{
-    Command, Returned, drive, drive_abandon, drive_ahead, drive_all, drive_answer, drive_decode,
+    DriverCall, Results, drive, drive_abandon, drive_ahead, drive_all, drive_answer, drive_decode,
     drive_give_up, drive_notify, drive_one, drive_pop, drive_push, drive_pushed, drive_reply,
     drive_reset,
 };

@@ -4,10 +4,10 @@
 ghost use Rattle.std.specs.Prelude.{◌≡◌, IfErr, IfOk, None, OnErr, OnOk, Some, drop, length};
 ghost use Rattle.fs_chain.specs.Orders.{memory_error};
 ghost use Rattle.fs_chain.specs.declared.state.ChainState.TheVariants as at;
-ghost use Rattle.fs_driven.specs.Begins.{IsNew, RunsFromNew};
-ghost use Rattle.fs_driven.specs.Reported.{calls_of};
+ghost use Rattle.fs_driven.specs.Begins.{IsFreeOver, RunsFromNew};
+ghost use Rattle.fs_driven.specs.Events.{calls_of};
 
-use crate::commands::{Command, Returned, drive_all};
+use crate::commands::{DriverCall, Results, drive_all};
 use crate::laws::law_driven;
 use fs_chain::{ChainError, ChainHandle, QueueState};
 use fs_regions::GuestMap;
@@ -18,7 +18,7 @@ use std::alloc::Global;
 fn new_handle(alloc: Global, regions: GuestMap, limit: u32) -> Result<ChainHandle, ChainError>
     ensures error { IfErr result (λ e. memory_error at.Free limit ≡ Some e) }
     ensures ok { OnOk result (memory_error at.Free limit ≡ None) }
-    ensures new { IfOk result (λ w. IsNew regions limit w) }
+    ensures new { IfOk result (λ w. IsFreeOver regions limit w) }
 {
     let mut handle = ChainHandle::new(alloc);
     handle.set_memory(regions, limit)?;
@@ -36,8 +36,8 @@ pub fn drive_new<'a>(
     on: &[usize],
     page_size: u32,
     places: &[usize],
-    commands: &mut [Command<'a>],
-    returned: &mut [Returned<'a>],
+    commands: &mut [DriverCall<'a>],
+    returned: &mut [Results<'a>],
 ) -> Result<[ChainHandle; 2], ChainError>
     ensures error { IfErr result (λ e. memory_error at.Free limit ≡ Some e) }
     ensures ok { OnOk result (memory_error at.Free limit ≡ None) }

@@ -5,9 +5,9 @@ ghost use Rattle.fs_regions.specs.Places.{untranslated};
 ghost use Rattle.fs_driven.specs.Moving.{have_valid_maximum, restored};
 ghost use Rattle.fs_driven.specs.NewMemory.{HaveNone, IsErrorOf, TakeMemory, are_idle, handles_error};
 ghost use Rattle.fs_driven.specs.NewMemory.{regions_error, remap_error};
-ghost use Rattle.fs_driven.specs.Reported.{Drives, call_of};
-ghost use Rattle.fs_driven.specs.declared.commands.Command.TheVariants as does;
-ghost use Rattle.fs_driven.specs.declared.commands.Returned.TheVariants as gives;
+ghost use Rattle.fs_driven.specs.Events.{Drives, call_of};
+ghost use Rattle.fs_driven.specs.declared.commands.DriverCall.TheVariants as does;
+ghost use Rattle.fs_driven.specs.declared.commands.Results.TheVariants as gives;
 
 use fs_chain::{ChainError, ChainHandle, QueueState};
 use fs_regions::{GuestMap, GuestRegions, MemoryRegion, RegionsError};

@@ -15,11 +15,11 @@ pub fn free_for_next(handle: &mut ChainHandle)
     ensures other { is_out handle.old.state ≡ true
         → (next : ChainHandle)
         → is_out next.state ≡ true
-        → next.serial ≡ handle.new.serial
-        → handle.old.serial ≡ next.serial
+        → next.ticket ≡ handle.new.ticket
+        → handle.old.ticket ≡ next.ticket
         → ⊥ }
 {
     law_tickets();
-    let _ticket = handle.serial();
+    let _ticket = handle.ticket();
     handle.abandon();
 }

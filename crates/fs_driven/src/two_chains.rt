@@ -2,10 +2,10 @@
 //! they are a run of the live machine is the contract of `drive_all`.
 
 ghost use Rattle.std.specs.Prelude.{◌≡◌, ◌∷◌, [], drop};
-ghost use Rattle.fs_driven.specs.Reported.{Drives, calls_of};
-ghost use Rattle.fs_driven.specs.declared.commands.Command.TheVariants as does;
+ghost use Rattle.fs_driven.specs.Events.{Drives, calls_of};
+ghost use Rattle.fs_driven.specs.declared.commands.DriverCall.TheVariants as does;
 
-use crate::commands::{Command, Returned, drive_all};
+use crate::commands::{DriverCall, Results, drive_all};
 use fs_chain::{ChainHandle, QueueState};
 use fs_regions::LoadAhead;
 use fuse_values::FileAnswer;
@@ -19,7 +19,7 @@ pub struct Inputs<'a> {
     pub loaded: &'a [u8],
     pub session: Session,
     pub request: &'a [u8],
-    pub serial: u32,
+    pub ticket: u32,
     pub answer: FileAnswer,
 }
 
@@ -35,29 +35,29 @@ pub fn serve_two<'a>(
     other: Inputs<'a>,
     first: (usize, [u8; 2]),
     second: (usize, [u8; 2]),
-    returned: &mut [Returned<'a>],
+    returned: &mut [Results<'a>],
 )
     ensures run { Drives on.now page_size handles.old handles.new queues.old queues.new
         (calls_of (0 ∷ 1 ∷ 0 ∷ 1 ∷ 0 ∷ 1 ∷ first.0 ∷ first.0 ∷ second.0 ∷ second.0 ∷ [])
         (does.PopAhead one.entry.ahead one.entry.loaded ∷ does.PopAhead other.entry.ahead other.entry.loaded
         ∷ does.Decode one.entry.session one.entry.request
         ∷ does.Decode other.entry.session other.entry.request
-        ∷ does.Answer one.entry.serial one.entry.answer ∷ does.Answer other.entry.serial other.entry.answer
+        ∷ does.Answer one.entry.ticket one.entry.answer ∷ does.Answer other.entry.ticket other.entry.answer
         ∷ does.Push ∷ does.Pushed first.1 ∷ does.Push ∷ does.Pushed second.1 ∷ []) returned.new) }
     ensures behind { drop 10 returned.new ≡ drop 10 returned.old }
 {
     let places = [0, 1, 0, 1, 0, 1, first.0, first.0, second.0, second.0];
     let mut commands = [
-        Command::PopAhead(one.ahead, one.loaded),
-        Command::PopAhead(other.ahead, other.loaded),
-        Command::Decode(one.session, one.request),
-        Command::Decode(other.session, other.request),
-        Command::Answer(one.serial, one.answer),
-        Command::Answer(other.serial, other.answer),
-        Command::Push,
-        Command::Pushed(first.1),
-        Command::Push,
-        Command::Pushed(second.1),
+        DriverCall::PopAhead(one.ahead, one.loaded),
+        DriverCall::PopAhead(other.ahead, other.loaded),
+        DriverCall::Decode(one.session, one.request),
+        DriverCall::Decode(other.session, other.request),
+        DriverCall::Answer(one.ticket, one.answer),
+        DriverCall::Answer(other.ticket, other.answer),
+        DriverCall::Push,
+        DriverCall::Pushed(first.1),
+        DriverCall::Push,
+        DriverCall::Pushed(second.1),
     ];
     drive_all(
         handles,

@@ -32,9 +32,9 @@ use Rattle.live_machine.specs.Several as several
 use Rattle.live_machine.proofs.Queues.{there_same}
 use Rattle.fs_chain.specs.declared.queue.QueueState.{QueueState}
 use Rattle.fs_chain.specs.declared.popping.PopOutcome.TheVariants as shows
-use Rattle.fs_chain.specs.Holds.{IsQueue, Machine, live_of}
+use Rattle.fs_chain.specs.Holds.{IsRunQueue, RunState, live_of}
 use Rattle.fs_chain.specs.Queues.{may_take}
-use Rattle.fs_chain.specs.Walks.{reported_of}
+use Rattle.fs_chain.specs.Walks.{outcome_of}
 use Rattle.fs_chain.proofs.Offering.{ended_queue, ended_runs}
 use Rattle.notify.specs.Kicks.{ahead}
 use Rattle.notify.specs.Threads.{ThreadedQueue, Walker, Rearmer, walks, is_rearmer, may_act, after_act, TakesOne, SleepsNow}
@@ -53,42 +53,42 @@ IsBy w taking.Idle = w ≡ Idle
 IsBy w (taking.Refuses e) = Unit {0}
 IsBy w (taking.Offers head fetched) = IsHead w
 
-abbrev Shows : (Offer → Type 0) → Option Offer → Type 0
-Shows P None = Unit {0}
-Shows P (Some o) = P o
+abbrev IfOffer : (Offer → Type 0) → Option Offer → Type 0
+IfOffer P None = Unit {0}
+IfOffer P (Some o) = P o
 
-shows_is : (P : Offer → Type 0) (x : Option Offer) (o : Offer) → x ≡ Some o → Shows P x → P o
-shows_is P x o is shows = subst (Shows P) is shows
+shows_is : (P : Offer → Type 0) (x : Option Offer) (o : Offer) → x ≡ Some o → IfOffer P x → P o
+shows_is P x o is shows = subst (IfOffer P) is shows
 
-on_request : (P : Offer → Type 0) (bs : List ℕ) (o : Offer) → P o → Shows P (without_request bs o)
+on_request : (P : Offer → Type 0) (bs : List ℕ) (o : Offer) → P o → IfOffer P (without_request bs o)
 on_request P [] o h = h
 on_request P (b ∷ bs) o h = tt
 
-on_chain : (P : Offer → Type 0) (ls : List Load) (bs : List ℕ) (o : Offer) → P o → Shows P (without_chain ls bs o)
+on_chain : (P : Offer → Type 0) (ls : List Load) (bs : List ℕ) (o : Offer) → P o → IfOffer P (without_chain ls bs o)
 on_chain P [] bs o h = on_request P bs o h
 on_chain P (l ∷ ls) bs o h = tt
 
-by_fetch : (h head : ℕ) (x : Option RequestAndRoom) → Shows (IsBy (Head h)) (option_map (taking.Offers head) x)
+by_fetch : (h head : ℕ) (x : Option RequestAndRoom) → IfOffer (IsBy (Head h)) (option_map (taking.Offers head) x)
 by_fetch h head None = tt
 by_fetch h head (Some x) = tt
 
-by_found : (m : Memory) (limit h head : ℕ) (bs : List ℕ) (f : Found) → Shows (IsBy (Head h)) (with_loaded bs (offer_of m limit head f))
+by_found : (m : Memory) (limit h head : ℕ) (bs : List ℕ) (f : Found) → IfOffer (IsBy (Head h)) (with_loaded bs (offer_of m limit head f))
 by_found m limit h head bs StopsQueue = on_request (IsBy (Head h)) bs _ tt
 by_found m limit h head bs _ = by_fetch h head _
 
 by_chain : (m : Memory) (limit h head : ℕ) (bs : List ℕ) (f : Option Found) →
-    Shows (IsBy (Head h)) (option_and_then (λ f. with_loaded bs (offer_of m limit head f)) f)
+    IfOffer (IsBy (Head h)) (option_and_then (λ f. with_loaded bs (offer_of m limit head f)) f)
 by_chain m limit h head bs None = tt
 by_chain m limit h head bs (Some f) = by_found m limit h head bs f
 
 by_tests : (h : ℕ) (ls : List Load) (bs : List ℕ) (a b : Bool) (one two : Offer) (x : Option Offer) → IsBy (Head h) one → IsBy (Head h) two
-    → Shows (IsBy (Head h)) x
-    → Shows (IsBy (Head h)) (if a then without_chain ls bs one else if b then without_chain ls bs two else x)
+    → IfOffer (IsBy (Head h)) x
+    → IfOffer (IsBy (Head h)) (if a then without_chain ls bs one else if b then without_chain ls bs two else x)
 by_tests h ls bs true b one two x p q shows = on_chain (IsBy (Head h)) ls bs one p
 by_tests h ls bs false true one two x p q shows = on_chain (IsBy (Head h)) ls bs two q
 by_tests h ls bs false false one two x p q shows = shows
 
-by_next : (m : Memory) (limit : ℕ) (q : Ring) (ls : List Load) (bs : List ℕ) (w : NextAvail) → Shows (IsBy w) (on_waits m limit q ls bs w)
+by_next : (m : Memory) (limit : ℕ) (q : Ring) (ls : List Load) (bs : List ℕ) (w : NextAvail) → IfOffer (IsBy w) (on_waits m limit q ls bs w)
 by_next m limit q ls bs Idle = on_chain (IsBy Idle) ls bs taking.Idle refl
 by_next m limit q ls bs (Refused e) = on_chain (IsBy (Refused e)) ls bs (taking.Refuses e) tt
 by_next m limit q ls bs (Head head) =
@@ -233,8 +233,8 @@ same_live : (x : Option LiveQueue) (v w : LiveQueue) → x ≡ Some v → x ≡ 
 same_live x v w is too = cc
 
 -- what such a pop says of its queue: it isn't stopped, and may have one more chain in flight
-module _ (m : Machine) (i : ℕ) (before : QueueState) (loaded : Loaded) (ds : List Descriptor) (came : comes.CourseStep) (end : Machine)
-    (there : IsQueue m i before) (e : EndsPopSo m i loaded ds came end) where
+module _ (m : RunState) (i : ℕ) (before : QueueState) (loaded : Loaded) (ds : List Descriptor) (came : comes.CourseStep) (end : RunState)
+    (there : IsRunQueue m i before) (e : EndsPopSo m i loaded ds came end) where
   may : may_take before ≡ true
   may = subst (λ (v : LiveQueue). several.may_take v ≡ true) (ended_queue m i before loaded ds came end there e) e.room
 
@@ -271,29 +271,29 @@ takes_so q after s index counted may some gone is walker known =
       subst (λ (v : LiveQueue). IsLiveModel v (after_act (ways_of q) s TakesOne)) (sym gone) there,
     )
 
-abbrev TakesSo : (before after : QueueState) (loaded : Loaded) (s : ThreadedQueue) → Type 0
-TakesSo before after loaded s =
+abbrev TakesChainSo : (before after : QueueState) (loaded : Loaded) (s : ThreadedQueue) → Type 0
+TakesChainSo before after loaded s =
     (index : ℕ) × IsIndex loaded index
     × (s.known ≡ index → IsTrue (may_act (ways_of before) s TakesOne) × IsModelOf after (after_act (ways_of before) s TakesOne))
 
 -- what it was offered
-abbrev IsOffered : Memory → (limit : ℕ) → Ring → Loaded → Type 0
-IsOffered m limit q loaded =
+abbrev IsOfferedNext : Memory → (limit : ℕ) → Ring → Loaded → Type 0
+IsOfferedNext m limit q loaded =
     (head : ℕ) × (request : List ℕ) × (fetched : RequestAndRoom) × OffersBy m limit q loaded request (Offers head fetched)
 
 offered : (m : Memory) (limit : ℕ) (q : Ring) (loaded : Loaded) (ds : List Descriptor) (head : ℕ) (fault : Option ChainFault)
-    → FetchesBy m limit q loaded ds head fault → IsOffered m limit q loaded
+    → FetchesBy m limit q loaded ds head fault → IsOfferedNext m limit q loaded
 offered m limit q loaded ds head None by =
     let n = total_len (readable ds) in
     (head, replicate n 0, IsRequest (replicate n 0) (addresses_of (writable ds)), by.1 (replicate n 0) (length-replicate n 0))
 offered m limit q loaded ds head (Some why) by = (head, [], CannotFetch why, by)
 
 -- by a chain's pop
-takes_chain : (m end : Machine) (i : ℕ) (before after : QueueState) (loaded : Loaded) (ds : List Descriptor) (head : ℕ)
-    (fault : Option ChainFault) (s : ThreadedQueue) → HasU16Numbers before → IsQueue m i before
+takes_chain : (m end : RunState) (i : ℕ) (before after : QueueState) (loaded : Loaded) (ds : List Descriptor) (head : ℕ)
+    (fault : Option ChainFault) (s : ThreadedQueue) → HasU16Numbers before → IsRunQueue m i before
     → EndsPopSo m i loaded ds (step.Chain head fault) end
-    → IsQueue (after_pop m i (live_of before) loaded ds (step.Chain head fault)) i after
-    → IsModelOf before s → s.holder ≡ Walker → TakesSo before after loaded s
+    → IsRunQueue (after_pop m i (live_of before) loaded ds (step.Chain head fault)) i after
+    → IsModelOf before s → s.holder ≡ Walker → TakesChainSo before after loaded s
 takes_chain m end i before after loaded ds head fault s counted there e left is walker =
     let came : comes.CourseStep = step.Chain head fault in
     let found = offered m.places m.limit e.w.queue loaded ds head fault e.ends.0 in
@@ -310,22 +310,22 @@ takes_chain m end i before after loaded ds head fault s counted there e left is 
           known,
     )
 
-takes_by : (m end : Machine) (i : ℕ) (before after : QueueState) (loaded : Loaded) (ds : List Descriptor) (came : comes.CourseStep)
-    (s : ThreadedQueue) → HasU16Numbers before → HasPopped (reported_of ds came) → IsQueue m i before
-    → EndsPopSo m i loaded ds came end → IsQueue (after_pop m i (live_of before) loaded ds came) i after
-    → IsModelOf before s → s.holder ≡ Walker → TakesSo before after loaded s
+takes_by : (m end : RunState) (i : ℕ) (before after : QueueState) (loaded : Loaded) (ds : List Descriptor) (came : comes.CourseStep)
+    (s : ThreadedQueue) → HasU16Numbers before → HasPopped (outcome_of ds came) → IsRunQueue m i before
+    → EndsPopSo m i loaded ds came end → IsRunQueue (after_pop m i (live_of before) loaded ds came) i after
+    → IsModelOf before s → s.holder ≡ Walker → TakesChainSo before after loaded s
 takes_by m end i before after loaded ds (step.Chain head fault) s counted taken there e left is walker =
     takes_chain m end i before after loaded ds head fault s counted there e left is walker
 takes_by m end i before after loaded ds _ s counted taken there e left is walker = absurd taken
 
 pub takes : TakesByPop
-takes m i before after loaded new reported s counted taken there ends is walker =
+takes m i before after loaded new result s counted taken there ends is walker =
     takes_by m (after_pop m i (live_of before) loaded new.descriptors.items ends.came) i before after loaded new.descriptors.items ends.came
-    s counted (subst HasPopped ends.reported_is taken) there ends.happens ends.queue is walker
+    s counted (subst HasPopped ends.outcome_is taken) there ends.happens ends.queue is walker
 
 -- ---- none is found
 
-idle_is : (ds : List Descriptor) (came : comes.CourseStep) → shows.Idle ≡ reported_of ds came → came ≡ step.Idle
+idle_is : (ds : List Descriptor) (came : comes.CourseStep) → shows.Idle ≡ outcome_of ds came → came ≡ step.Idle
 idle_is ds step.Idle e = refl
 idle_is ds (step.Chain h None) e = cc
 idle_is ds _ e = cc
@@ -346,11 +346,11 @@ sleeps_so q s none is asker shown =
 pub finds_none : FindsNoneByPop
 finds_none m i before after loaded new s counted fits there ends is asker shown =
     let ds = new.descriptors.items in
-    let came = idle_is ds ends.came ends.reported_is in
+    let came = idle_is ds ends.came ends.outcome_is in
     let e : EndsPopSo m i loaded ds step.Idle m =
     subst (λ (c : comes.CourseStep). EndsPopSo m i loaded ds c (after_pop m i (live_of before) loaded ds c)) came ends.happens in
-    let left : IsQueue m i after =
-    subst (λ (c : comes.CourseStep). IsQueue (after_pop m i (live_of before) loaded ds c) i after) came ends.queue in
+    let left : IsRunQueue m i after =
+    subst (λ (c : comes.CourseStep). IsRunQueue (after_pop m i (live_of before) loaded ds c) i after) came ends.queue in
     let by = subst (λ (q : Ring). OffersBy m.places m.limit q loaded [] taking.Idle) (laid m i before loaded ds step.Idle m there e)
     e.ends.0 in
     let gone : live_of after ≡ live_of before = same_live (slice_get m.queues i) (live_of before) (live_of after) there left in

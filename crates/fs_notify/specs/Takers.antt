@@ -21,7 +21,7 @@ use Rattle.live_machine.specs.Several.{HasEventIndex, LacksEventIndex}
 use Rattle.fs_chain.specs.Events.{notification_store}
 use Rattle.fs_chain.specs.Orders.{begin_error, end_error, give_up_error}
 use Rattle.fs_chain.specs.Queues.{gave, gave_up, in_flight, live_of}
-use Rattle.fs_chain.specs.Holds.{EndsBy, IsQueue, Machine}
+use Rattle.fs_chain.specs.Holds.{EndsBy, IsRunQueue, RunState}
 use Rattle.notify.specs.Threads.{Ways, right_ways, ThreadedQueue, Walker, Rearmer, Nobody, may_act, after_act}
 use Rattle.notify.specs.Threads.{ActsOver}
 use Rattle.notify.specs.Threads.{Wishes, WishIsThere, Silences, TakesOne, DropsOne, SleepsNow, ReturnsChains}
@@ -104,12 +104,12 @@ IsIndex loaded index = (bytes : List ℕ) × (loaded.index ≡ Some bytes) × (f
 -- The queue afterwards is the model's
 abbrev pub TakesByPop : Type 0
 TakesByPop =
-    (m : Machine) (i : ℕ) (before after : QueueState) (loaded : Loaded) (new : ChainHandle)
-    (reported : walked.PopOutcome) (s : ThreadedQueue)
+    (m : RunState) (i : ℕ) (before after : QueueState) (loaded : Loaded) (new : ChainHandle)
+    (result : walked.PopOutcome) (s : ThreadedQueue)
     → HasU16Numbers before
-    → HasPopped reported
-    → IsQueue m i before
-    → EndsBy m i before after loaded new reported
+    → HasPopped result
+    → IsRunQueue m i before
+    → EndsBy m i before after loaded new result
     → IsModelOf before s
     → s.holder ≡ Walker
     → (index : ℕ)
@@ -121,11 +121,11 @@ TakesByPop =
 -- hold. Its wish is in memory, behind a barrier. The index is the one in memory now, not an earlier one
 abbrev pub FindsNoneByPop : Type 0
 FindsNoneByPop =
-    (m : Machine) (i : ℕ) (before after : QueueState) (loaded : Loaded) (new : ChainHandle)
+    (m : RunState) (i : ℕ) (before after : QueueState) (loaded : Loaded) (new : ChainHandle)
     (s : ThreadedQueue)
     → HasU16Numbers before
     → s.index < 2 ^ 16
-    → IsQueue m i before
+    → IsRunQueue m i before
     → EndsBy m i before after loaded new shows.Idle
     → IsModelOf before s
     → s.holder ≡ Rearmer
@@ -165,7 +165,7 @@ abbrev pub DropIsAnAct : Type 0
 DropIsAnAct =
     (q : QueueState) (out : InFlight) (s : ThreadedQueue)
     → HasU16Numbers q
-    → give_up_error (at.Taken out) q ≡ None
+    → give_up_error (at.Popped out) q ≡ None
     → IsModelOf q s
     → s.holder ≡ Walker
     → IsTrue (may_act (ways_of q) s DropsOne) × IsModelOf (gave_up q) (after_act (ways_of q) s DropsOne)

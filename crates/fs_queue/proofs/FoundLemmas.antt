@@ -135,9 +135,9 @@ step_is m q v few =
 
 -- ---- what a walk finds is what its steps come to
 
-preserved : (m : Memory) (v : Visit) (vs : List Visit) (b : Bool) → is_indirect (entry_of m v) ≡ b →
+kept : (m : Memory) (v : Visit) (vs : List Visit) (b : Bool) → is_indirect (entry_of m v) ≡ b →
     ordinary_entries m (v ∷ vs) ≡ cond (not b) (entry_of m v ∷ ordinary_entries m vs) (ordinary_entries m vs)
-preserved m v vs b is = ap (λ (x : Bool). cond (not x) (entry_of m v ∷ ordinary_entries m vs) (ordinary_entries m vs)) is
+kept m v vs b is = ap (λ (x : Bool). cond (not x) (entry_of m v ∷ ordinary_entries m vs) (ordinary_entries m vs)) is
 
 -- a step that passes, before others
 before : (m : Memory) (q : Queue) (v : Visit) (vs : List Visit) (IsSo : Visit → Type 0) → Passes m q v → EndsAt m q vs IsSo →
@@ -161,7 +161,7 @@ before_ordinary m q v vs d (IsChain ds) there passes is rest =
     let all : All (Passes m q) (v ∷ vs) = All-cons (Passes m q) v vs (record { there = there; passes = inl passes }) rest.0 in
     let first : d ∷ ds ≡ entry_of m v ∷ ds = ap (λ (x : Descriptor). x ∷ ds) is in
     let others : entry_of m v ∷ ds ≡ entry_of m v ∷ ordinary_entries m vs = ap (λ (xs : List Descriptor). entry_of m v ∷ xs) rest.1 in
-    (all, first ∙ others ∙ sym (preserved m v vs false passes.ordinary))
+    (all, first ∙ others ∙ sym (kept m v vs false passes.ordinary))
 before_ordinary m q v vs d (HasFault fault) there passes is rest =
     before m q v vs (λ w. StepHasFault m q w fault) (record { there = there; passes = inl passes }) rest
 before_ordinary m q v vs d StopsQueue there passes is rest =
@@ -172,7 +172,7 @@ before_table : (m : Memory) (q : Queue) (v : Visit) (vs : List Visit) (r : Found
 before_table m q v vs (IsChain ds) there passes rest = (
   All-cons (Passes m q) v vs (record { there = there; passes = inr passes }) rest.0,
   rest.1 ∙ sym
-      (preserved m v vs true passes.indirect),
+      (kept m v vs true passes.indirect),
 )
 before_table m q v vs (HasFault fault) there passes rest =
     before m q v vs (λ w. StepHasFault m q w fault) (record { there = there; passes = inr passes }) rest

@@ -124,17 +124,17 @@ wants_size (shows.Wants w) a b e h = h ∙ e
 wants_size (shows.Ends walked) a b e h = tt
 
 -- the descriptors that joined are those of a list, if it kept them, and else more than it had room for
-pub record PreservedOf (room : ℕ) (preserved : Bool) (items joined : List Descriptor) : Type 0 where
-  pub same : preserved ≡ true → joined ≡ items
-  pub long : preserved ≡ false → room < length joined
+pub record KeptOf (room : ℕ) (kept : Bool) (items joined : List Descriptor) : Type 0 where
+  pub same : kept ≡ true → joined ≡ items
+  pub long : kept ≡ false → room < length joined
 
 grows : (ds : List Descriptor) (o : Option Descriptor) → length ds ≤ length (with_joining ds o)
 grows ds None = omega arith
 grows ds (Some d) = omega (arith, length-append ds (d ∷ []))
 
-stays_long : (room : ℕ) (preserved : Bool) (joined items : List Descriptor) (joins : Option Descriptor)
-    → PreservedOf room preserved items joined →
-    (preserved ≡ false) ⊎ (room < length (with_joining items joins)) →
+stays_long : (room : ℕ) (kept : Bool) (joined items : List Descriptor) (joins : Option Descriptor)
+    → KeptOf room kept items joined →
+    (kept ≡ false) ⊎ (room < length (with_joining items joins)) →
     room < length (with_joining joined joins)
 stays_long room true joined items joins k (inl e) = absurd (cc)
 stays_long room true joined items joins k (inr more) = rw (k.same refl) more
@@ -150,76 +150,76 @@ by_room items d capacity room full there =
     ] refl
 
 -- one more descriptor, if one joins
-preserved_joining : (room : ℕ) (preserved preserved' : Bool) (items items' joined : List Descriptor) (joins : Option Descriptor) →
-    (preserved' ≡ true → (preserved ≡ true) × (items' ≡ with_joining items joins)) →
-    (preserved' ≡ false → (preserved ≡ false) ⊎ (room < length (with_joining items joins))) → PreservedOf room preserved items joined →
-    PreservedOf room preserved' items' (with_joining joined joins)
-preserved_joining room preserved preserved' items items' joined joins keeps loses k = record {
+kept_joining : (room : ℕ) (kept kept' : Bool) (items items' joined : List Descriptor) (joins : Option Descriptor) →
+    (kept' ≡ true → (kept ≡ true) × (items' ≡ with_joining items joins)) →
+    (kept' ≡ false → (kept ≡ false) ⊎ (room < length (with_joining items joins))) → KeptOf room kept items joined →
+    KeptOf room kept' items' (with_joining joined joins)
+kept_joining room kept kept' items items' joined joins keeps loses k = record {
   same = λ t. let s = keeps t in ap (λ (ds : List Descriptor). with_joining ds joins) (k.same s.0) ∙ sym s.1;
-  long = λ f. stays_long room preserved joined items joins k (loses f);
+  long = λ f. stays_long room kept joined items joins k (loses f);
 }
 
-pub preserved_none : (room : ℕ) → PreservedOf room true [] []
-preserved_none room = record { same = λ _. refl; long = λ e. absurd (cc) }
+pub kept_none : (room : ℕ) → KeptOf room true [] []
+kept_none room = record { same = λ _. refl; long = λ e. absurd (cc) }
 
 -- some loads brought a walk so far, and its descriptors are these, if they were kept
-abbrev pub CamePreserved : Memory → (size : ℕ) → (start : Ahead) → (room : ℕ) → (preserved : Bool) → (items : List Descriptor) → Ahead
+abbrev pub CameKept : Memory → (size : ℕ) → (start : Ahead) → (room : ℕ) → (kept : Bool) → (items : List Descriptor) → Ahead
     → Type 0
-CamePreserved m size start room preserved items a =
-    (joined : List Descriptor) × PreservedOf room preserved items joined × Came m size start joined a
+CameKept m size start room kept items a =
+    (joined : List Descriptor) × KeptOf room kept items joined × Came m size start joined a
 
-pub came_preserved :
-    (m : Memory) (size : ℕ) (start : Ahead) (room : ℕ) (preserved preserved' : Bool) (items items' : List Descriptor) (w : ChainWalk)
+pub came_kept :
+    (m : Memory) (size : ℕ) (start : Ahead) (room : ℕ) (kept kept' : Bool) (items items' : List Descriptor) (w : ChainWalk)
     (at : ℕ)
     (came : Option (List ℕ)) (joins : Option Descriptor) (a : Ahead) →
     w.size ≡ size → at ≡ entry_address (visit_of w) → came ≡ (if reach m Read at 16 then Some (bytes m at 16) else None) →
     joins ≡ joining (step_by w.size (visit_of w) (load_of w came)) →
     a ≡ ahead_after w.size (visit_of w) (step_by w.size (visit_of w) (load_of w came)) →
-    (preserved' ≡ true → (preserved ≡ true) × (items' ≡ with_joining items joins)) →
-    (preserved' ≡ false → (preserved ≡ false) ⊎ (room < length (with_joining items joins))) →
-    CamePreserved m size start room preserved items (Reads (visit_of w)) → CamePreserved m size start room preserved' items' a
-came_preserved m size start room preserved preserved' items items' w at came joins a own at-is is joins-is a-is keeps loses c = (
+    (kept' ≡ true → (kept ≡ true) × (items' ≡ with_joining items joins)) →
+    (kept' ≡ false → (kept ≡ false) ⊎ (room < length (with_joining items joins))) →
+    CameKept m size start room kept items (Reads (visit_of w)) → CameKept m size start room kept' items' a
+came_kept m size start room kept kept' items items' w at came joins a own at-is is joins-is a-is keeps loses c = (
   with_joining c.0 joins,
-  preserved_joining room preserved preserved' items items' c.0 joins keeps loses c.1,
+  kept_joining room kept kept' items items' c.0 joins keeps loses c.1,
   came_given m size start c.0 w at came joins a own at-is is joins-is a-is c.2,
 )
 
 -- what a walk came to, by the descriptors that joined it
-pub preserved_found : (room : ℕ) (preserved : Bool) (items joined : List Descriptor) (w : walked.WalkEnd)
-    → (w ≡ comes_to.Chain → preserved ≡ true) →
-    PreservedOf room preserved items joined →
+pub kept_found : (room : ℕ) (kept : Bool) (items joined : List Descriptor) (w : walked.WalkEnd)
+    → (w ≡ comes_to.Chain → kept ≡ true) →
+    KeptOf room kept items joined →
     found_of w items ≡ found_of w joined
-preserved_found room preserved items joined comes_to.Chain k c = ap IsChain (sym (c.same (k refl)))
-preserved_found room preserved items joined (comes_to.Faulty fault) k c = refl
-preserved_found room preserved items joined comes_to.Stopped k c = refl
+kept_found room kept items joined comes_to.Chain k c = ap IsChain (sym (c.same (k refl)))
+kept_found room kept items joined (comes_to.Faulty fault) k c = refl
+kept_found room kept items joined comes_to.Stopped k c = refl
 
-pub lost_found : (room : ℕ) (preserved : Bool) (items joined : List Descriptor) (w : walked.WalkEnd) → w ≡ comes_to.Chain
-    → preserved ≡ false →
-    PreservedOf room preserved items joined →
+pub lost_found : (room : ℕ) (kept : Bool) (items joined : List Descriptor) (w : walked.WalkEnd) → w ≡ comes_to.Chain
+    → kept ≡ false →
+    KeptOf room kept items joined →
     IsLongChain room (found_of w joined)
-lost_found room preserved items joined comes_to.Chain is lost c = (joined, refl, c.long lost)
-lost_found room preserved items joined (comes_to.Faulty fault) is lost c = absurd (cc)
-lost_found room preserved items joined comes_to.Stopped is lost c = absurd (cc)
+lost_found room kept items joined comes_to.Chain is lost c = (joined, refl, c.long lost)
+lost_found room kept items joined (comes_to.Faulty fault) is lost c = absurd (cc)
+lost_found room kept items joined comes_to.Stopped is lost c = absurd (cc)
 
 -- what a walk answers that ended so
-pub answered_end : (m : Memory) (q : Queue) (head room : ℕ) (preserved : Bool) (items : List Descriptor) (w : walked.WalkEnd)
+pub answered_end : (m : Memory) (q : Queue) (head room : ℕ) (kept : Bool) (items : List Descriptor) (w : walked.WalkEnd)
     (r : Result walked.WalkEnd AllocError) →
-    IfOk r (λ x. (x ≡ w) × (w ≡ comes_to.Chain → preserved ≡ true)) →
-    CamePreserved m q.size (ahead_at q.size (first_visit q head)) room preserved items (Ends (found_of w [])) →
+    IfOk r (λ x. (x ≡ w) × (w ≡ comes_to.Chain → kept ≡ true)) →
+    CameKept m q.size (ahead_at q.size (first_visit q head)) room kept items (Ends (found_of w [])) →
     IfOk r (λ x. found_of x items ≡ chain m q head)
-answered_end m q head room preserved items w (Ok x) reported c =
-    ap (λ (y : walked.WalkEnd). found_of y items) reported.0 ∙ preserved_found room preserved items c.0 w reported.1 c.1 ∙ came_end m q head
+answered_end m q head room kept items w (Ok x) is c =
+    ap (λ (y : walked.WalkEnd). found_of y items) is.0 ∙ kept_found room kept items c.0 w is.1 c.1 ∙ came_end m q head
     c.0 w c.2
-answered_end m q head room preserved items w (Err e) reported c = tt
+answered_end m q head room kept items w (Err e) is c = tt
 
-pub failed_end : (m : Memory) (q : Queue) (head room : ℕ) (preserved : Bool) (items : List Descriptor) (w : walked.WalkEnd)
+pub failed_end : (m : Memory) (q : Queue) (head room : ℕ) (kept : Bool) (items : List Descriptor) (w : walked.WalkEnd)
     (r : Result walked.WalkEnd AllocError) →
-    OnErr r ((w ≡ comes_to.Chain) × (preserved ≡ false)) →
-    CamePreserved m q.size (ahead_at q.size (first_visit q head)) room preserved items (Ends (found_of w [])) →
+    OnErr r ((w ≡ comes_to.Chain) × (kept ≡ false)) →
+    CameKept m q.size (ahead_at q.size (first_visit q head)) room kept items (Ends (found_of w [])) →
     OnErr r (IsLongChain room (chain m q head))
-failed_end m q head room preserved items w (Ok x) lost c = tt
-failed_end m q head room preserved items w (Err e) lost c =
-    subst (IsLongChain room) (came_end m q head c.0 w c.2) (lost_found room preserved items c.0 w lost.0 lost.1 c.1)
+failed_end m q head room kept items w (Ok x) lost c = tt
+failed_end m q head room kept items w (Err e) lost c =
+    subst (IsLongChain room) (came_end m q head c.0 w c.2) (lost_found room kept items c.0 w lost.0 lost.1 c.1)
 
 -- how many loads a walk may still ask for
 abbrev pub loads_left : code.Progress → ℕ

@@ -37,8 +37,8 @@ by_ring m limit q _ = refl
 
 pub ring_is_idle : (m : Memory) (limit : ℕ) (q : Queue) (stage : Stage) → q.stopped ≡ false → stage ≡ HasResult (next_avail m q) →
     is_idle (offer m limit q) ≡ reports_idle stage
-ring_is_idle m limit q stage on reported =
-    ap is_idle (offer_next_avail m limit q on) ∙ by_ring m limit q (next_avail m q) ∙ sym (ap reports_idle reported)
+ring_is_idle m limit q stage on is =
+    ap is_idle (offer_next_avail m limit q on) ∙ by_ring m limit q (next_avail m q) ∙ sym (ap reports_idle is)
 
 -- no other end of a walk tells it
 pub waits_unless_idle : (w : Walk) → (w ≡ walk.Idle → ⊥) → reports_idle (stage_of w) ≡ false

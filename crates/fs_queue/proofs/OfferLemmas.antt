@@ -181,9 +181,9 @@ pub taken_found : (m : Memory) (limit : ℕ) (l : QueueLayout) (position at : �
     Takes m limit (at_position l position) (Ok (Some (record { head = at; chain = c; return_windows = w })))
 taken_found m limit l position at w c head found h =
     let both = found_return_places _ _ _ _ found in
-    let preserved : HoldsReturnWindows m (at_position l position) w = record { used = both.0; flags = both.1 } in
+    let kept : HoldsReturnWindows m (at_position l position) w = record { used = both.0; flags = both.1 } in
     let fetched = fetched_of m limit at (chain m (at_position l position) at) c h in (
       fetched.0,
       offer_found m limit l position at _ _ (chain m (at_position l position) at) head found refl ∙ fetched.1,
-      record { return_windows = preserved; chain = fetched.2 },
+      record { return_windows = kept; chain = fetched.2 },
     )

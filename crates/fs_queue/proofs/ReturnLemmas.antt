@@ -59,9 +59,9 @@ stored_located [] ps xs m e = let none : [] ≡ ps = cc in rw (← none)
 stored_located (a ∷ as') ps [] m e = ap (over m) (put_none ps m.host)
 stored_located (a ∷ as') ps (x ∷ xs) m e =
     let s = parts (location m Write a) (located (location m Write) as') ps e in
-    let preserved = same_location m (put_byte m.host s.0 x) (put_tables m.host s.0 x) in
+    let kept = same_location m (put_byte m.host s.0 x) (put_tables m.host s.0 x) in
     stored_one a x as' xs ps s.1 s.0 m s.2 s.4
-    (stored_located as' s.1 xs (over m (put_byte m.host s.0 x)) (ap (λ f. located (f Write) as') preserved ∙ s.3))
+    (stored_located as' s.1 xs (over m (put_byte m.host s.0 x)) (ap (λ f. located (f Write) as') kept ∙ s.3))
 
 -- ---- the stores of a return
 
@@ -76,8 +76,8 @@ room_stored m reply _ _ held = absurd held
 stored_held : (m : Memory) (h h' : Host) (as' xs : List ℕ) (ws vs : List Window) → h.tables ≡ m.host.tables →
     located (location m Write) as' ≡ Some (places vs) →
     ws ≡ vs → h' ≡ put_all h (zip (places ws) xs) → stored_all (over m h) (zip as' xs) ≡ over m h'
-stored_held m h h' as' xs ws vs preserved at e is =
-    stored_located as' (places vs) xs (over m h) (ap (λ f. located (f Write) as') (same_location m h preserved) ∙ at)
+stored_held m h h' as' xs ws vs kept at e is =
+    stored_located as' (places vs) xs (over m h) (ap (λ f. located (f Write) as') (same_location m h kept) ∙ at)
     ∙ ap (over m) (ap (λ (v : List Window). put_all h (zip (places v) xs)) (sym e) ∙ sym is)
 
 -- the used element and the used index at their addresses, at once
@@ -114,20 +114,20 @@ returned_is m h0 h1 h2 q fetched t reply bytes ws host taken a e1 e2 b =
     ∙ stored_all-append room at_used m
     ∙ ap (λ (n : Memory). stored_all n at_used) first ∙ second)
 
-pub reported_is : (m : Memory) (h2 : Host) (q : Queue) (fetched : RequestAndRoom) (t : Taken) (flags : List ℕ) (fs : List Window) →
+pub notice_is : (m : Memory) (h2 : Host) (q : Queue) (fetched : RequestAndRoom) (t : Taken) (flags : List ℕ) (fs : List Window) →
     h2.tables ≡ m.host.tables → IsTaken m q fetched t →
     fs ≡ t.return_windows.flags.items → flags ≡ map (byte_in h2) (places fs) → notifies flags ≡ wants_notice (over m h2) q
-reported_is m h2 q fetched t flags fs preserved taken e f =
+notice_is m h2 q fetched t flags fs kept taken e f =
     let read : bytes (over m h2) q.avail 2 ≡ flags =
     bytes-located (addresses q.avail 2) (over m h2) (places t.return_windows.flags.items)
-    (ap (λ g. located (g Read) (addresses q.avail 2)) (same_location m h2 preserved) ∙ taken.return_windows.flags)
+    (ap (λ g. located (g Read) (addresses q.avail 2)) (same_location m h2 kept) ∙ taken.return_windows.flags)
     ∙ ap (λ (ws : List Window). map (byte_in h2) (places ws)) (sym e) ∙ sym f in
     ap notifies (sym read)
 
 -- both stores keep the tables
-pub preserved_tables : (m : Memory) (h0 h1 h2 : Host) (ws1 ws2 : List (Place × ℕ)) → m.host ≡ h0 → h1 ≡ put_all h0 ws1 → h2 ≡ put_all h1 ws2
+pub kept_tables : (m : Memory) (h0 h1 h2 : Host) (ws1 ws2 : List (Place × ℕ)) → m.host ≡ h0 → h1 ≡ put_all h0 ws1 → h2 ≡ put_all h1 ws2
     → h2.tables ≡ m.host.tables
-preserved_tables m h0 h1 h2 ws1 ws2 host a b =
+kept_tables m h0 h1 h2 ws1 ws2 host a b =
     ap (λ (h : Host). h.tables) b ∙ all_tables ws2 h1 ∙ ap (λ (h : Host). h.tables) a ∙ all_tables ws1 h0
     ∙ ap (λ (h : Host). h.tables) (sym host)
 

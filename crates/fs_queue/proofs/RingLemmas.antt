@@ -57,8 +57,8 @@ located_past r rest (suc n) a past = rw (past_at r rest a past, located_past r r
 
 -- ---- what an available ring tells
 
-abbrev reported : Queue → (index_there : Bool) → (waiting : ℕ) → (entry_there : Bool) → (head : ℕ) → NextAvail
-reported q b w c h =
+abbrev next_of : Queue → (index_there : Bool) → (waiting : ℕ) → (entry_there : Bool) → (head : ℕ) → NextAvail
+next_of q b w c h =
     if not b then Refused AvailIndexUnreachable
     else if w == 0 then Idle
     else if nat_lt q.size w then Refused AvailTooFar
@@ -66,16 +66,16 @@ reported q b w c h =
     else if nat_le q.size h then Refused HeadOutOfTable
     else Head h
 
-reported_by : (q : Queue) (b c : Bool) (i j e f : List ℕ) → (b ≡ true → i ≡ j) → (c ≡ true → e ≡ f) →
-    reported q b ((from_le_bytes w16 i + (2 ^ 16 - q.position)) % 2 ^ 16) c (from_le_bytes w16 e)
-    ≡ reported q b ((from_le_bytes w16 j + (2 ^ 16 - q.position)) % 2 ^ 16) c (from_le_bytes w16 f)
-reported_by q false c i j e f p s = refl
-reported_by q true false i j e f p s =
-    ap (λ (l : List ℕ). reported q true ((from_le_bytes w16 l + (2 ^ 16 - q.position)) % 2 ^ 16) false (from_le_bytes w16 e)) (p refl) ∙
+next_by : (q : Queue) (b c : Bool) (i j e f : List ℕ) → (b ≡ true → i ≡ j) → (c ≡ true → e ≡ f) →
+    next_of q b ((from_le_bytes w16 i + (2 ^ 16 - q.position)) % 2 ^ 16) c (from_le_bytes w16 e)
+    ≡ next_of q b ((from_le_bytes w16 j + (2 ^ 16 - q.position)) % 2 ^ 16) c (from_le_bytes w16 f)
+next_by q false c i j e f p s = refl
+next_by q true false i j e f p s =
+    ap (λ (l : List ℕ). next_of q true ((from_le_bytes w16 l + (2 ^ 16 - q.position)) % 2 ^ 16) false (from_le_bytes w16 e)) (p refl) ∙
     refl
-reported_by q true true i j e f p s =
-    ap (λ (l : List ℕ). reported q true ((from_le_bytes w16 l + (2 ^ 16 - q.position)) % 2 ^ 16) true (from_le_bytes w16 e)) (p refl)
-    ∙ ap (λ (l : List ℕ). reported q true ((from_le_bytes w16 j + (2 ^ 16 - q.position)) % 2 ^ 16) true (from_le_bytes w16 l)) (s refl)
+next_by q true true i j e f p s =
+    ap (λ (l : List ℕ). next_of q true ((from_le_bytes w16 l + (2 ^ 16 - q.position)) % 2 ^ 16) true (from_le_bytes w16 e)) (p refl)
+    ∙ ap (λ (l : List ℕ). next_of q true ((from_le_bytes w16 j + (2 ^ 16 - q.position)) % 2 ^ 16) true (from_le_bytes w16 l)) (s refl)
 
 abbrev pub pick : (b z far : Bool) → NextAvail → NextAvail
 pick b z far rest = if not b then Refused AvailIndexUnreachable else if z then Idle else if far then Refused AvailTooFar else rest
@@ -86,9 +86,9 @@ picked true false false rest e = absurd (cc)
 picked _ _ _ rest e = refl
 
 -- where the entry isn't asked for it makes no difference
-reported_alone : (q : Queue) (b c : Bool) (h k w : ℕ) → asks_entry (reported q b w false h) ≡ false
-    → reported q b w false h ≡ reported q b w c k
-reported_alone q b c h k w e =
+next_alone : (q : Queue) (b c : Bool) (h k w : ℕ) → asks_entry (next_of q b w false h) ≡ false
+    → next_of q b w false h ≡ next_of q b w c k
+next_alone q b c h k w e =
     picked b (w == 0) (nat_lt q.size w) (if not c then Refused RingEntryUnreachable else if nat_le q.size k then Refused HeadOutOfTable
     else Head k) e
 
@@ -100,9 +100,9 @@ same_avail : (h m : Memory) (q : Queue) → reach h Read (avail_index_at q) 2 �
 same_avail h m q r1 r2 p s =
     let w = (number h w16 (avail_index_at q) + (2 ^ 16 - q.position)) % 2 ^ 16 in
     let e = number h w16 (ring_entry_at q) in
-    ap (λ b. reported q b w (reach h Read (ring_entry_at q) 2) e) r1
-    ∙ ap (λ c. reported q (reach m Read (avail_index_at q) 2) w c e) r2
-    ∙ reported_by q (reach m Read (avail_index_at q) 2) (reach m Read (ring_entry_at q) 2) (bytes h (avail_index_at q) 2)
+    ap (λ b. next_of q b w (reach h Read (ring_entry_at q) 2) e) r1
+    ∙ ap (λ c. next_of q (reach m Read (avail_index_at q) 2) w c e) r2
+    ∙ next_by q (reach m Read (avail_index_at q) 2) (reach m Read (ring_entry_at q) 2) (bytes h (avail_index_at q) 2)
     (bytes m (avail_index_at q) 2)
     (bytes h (ring_entry_at q) 2) (bytes m (ring_entry_at q) 2) p s
 
@@ -113,11 +113,11 @@ same_alone : (h m : Memory) (q : Queue) → reach h Read (avail_index_at q) 2 �
 same_alone h m q r1 r2 p asks =
     let w = (number h w16 (avail_index_at q) + (2 ^ 16 - q.position)) % 2 ^ 16 in
     let e = number h w16 (ring_entry_at q) in
-    let here : next_avail h q ≡ reported q (reach m Read (avail_index_at q) 2) w false e =
-    ap (λ b. reported q b w (reach h Read (ring_entry_at q) 2) e) r1 ∙ ap (λ c. reported q (reach m Read (avail_index_at q) 2) w c e) r2 in
-    here ∙ reported_alone q (reach m Read (avail_index_at q) 2) (reach m Read (ring_entry_at q) 2) e (number m w16 (ring_entry_at q)) w
+    let here : next_avail h q ≡ next_of q (reach m Read (avail_index_at q) 2) w false e =
+    ap (λ b. next_of q b w (reach h Read (ring_entry_at q) 2) e) r1 ∙ ap (λ c. next_of q (reach m Read (avail_index_at q) 2) w c e) r2 in
+    here ∙ next_alone q (reach m Read (avail_index_at q) 2) (reach m Read (ring_entry_at q) 2) e (number m w16 (ring_entry_at q)) w
     (ap asks_entry (sym here) ∙ asks)
-    ∙ reported_by q (reach m Read (avail_index_at q) 2) (reach m Read (ring_entry_at q) 2) (bytes h (avail_index_at q) 2)
+    ∙ next_by q (reach m Read (avail_index_at q) 2) (reach m Read (ring_entry_at q) 2) (bytes h (avail_index_at q) 2)
     (bytes m (avail_index_at q) 2)
     (bytes m (ring_entry_at q) 2) (bytes m (ring_entry_at q) 2) p (λ _. refl)
 
@@ -255,9 +255,9 @@ index_reports q i bs n w is len fits n-is w-is =
     let lacks = lacks_past a (ring_entry_at q) i pair (omega arith) in
     let read : number h w16 a ≡ n = ap (from_le_bytes w16) (one.same bs is) ∙ sym n-is in
     let wait : (number h w16 a + (2 ^ 16 - q.position)) % 2 ^ 16 ≡ w = ap (λ x. (x + (2 ^ 16 - q.position)) % 2 ^ 16) read ∙ sym w-is in
-    ap (λ b. reported q b ((number h w16 a + (2 ^ 16 - q.position)) % 2 ^ 16) (reach h Read (ring_entry_at q) 2)
+    ap (λ b. next_of q b ((number h w16 a + (2 ^ 16 - q.position)) % 2 ^ 16) (reach h Read (ring_entry_at q) 2)
     (number h w16 (ring_entry_at q))) (one.there ∙ ap is_some is)
-    ∙ ap (λ c. reported q true ((number h w16 a + (2 ^ 16 - q.position)) % 2 ^ 16) c (number h w16 (ring_entry_at q))) lacks.there
+    ∙ ap (λ c. next_of q true ((number h w16 a + (2 ^ 16 - q.position)) % 2 ^ 16) c (number h w16 (ring_entry_at q))) lacks.there
     ∙ ap (λ x. pick true (x == 0) (nat_lt q.size x) (Refused RingEntryUnreachable)) wait
 
 asked : (z far : Bool) (rest : NextAvail) → asks_entry (pick true z far (Refused RingEntryUnreachable)) ≡ true → pick true z far rest ≡ rest
@@ -279,10 +279,10 @@ entry_reports q bs e len fits pe asks =
     let second = has_second a (ring_entry_at q) (Some bs) e (len, fits) pe (omega arith) in
     let w = (from_le_bytes w16 bs + (2 ^ 16 - q.position)) % 2 ^ 16 in
     let index = index_reports q (Some bs) bs (from_le_bytes w16 bs) w refl len fits refl refl in
-    ap (λ b. reported q b ((number h w16 a + (2 ^ 16 - q.position)) % 2 ^ 16) (reach h Read (ring_entry_at q) 2)
+    ap (λ b. next_of q b ((number h w16 a + (2 ^ 16 - q.position)) % 2 ^ 16) (reach h Read (ring_entry_at q) 2)
     (number h w16 (ring_entry_at q))) first.there
-    ∙ ap (λ c. reported q true ((number h w16 a + (2 ^ 16 - q.position)) % 2 ^ 16) c (number h w16 (ring_entry_at q))) second.there
-    ∙ ap (λ (l : List ℕ). reported q true ((from_le_bytes w16 l + (2 ^ 16 - q.position)) % 2 ^ 16) (is_some e)
+    ∙ ap (λ c. next_of q true ((number h w16 a + (2 ^ 16 - q.position)) % 2 ^ 16) c (number h w16 (ring_entry_at q))) second.there
+    ∙ ap (λ (l : List ℕ). next_of q true ((from_le_bytes w16 l + (2 ^ 16 - q.position)) % 2 ^ 16) (is_some e)
     (number h w16 (ring_entry_at q)))
     (first.same bs refl)
     ∙ asked (w == 0) (nat_lt q.size w) (entry_shows q (is_some e) (number h w16 (ring_entry_at q))) (ap asks_entry (sym index) ∙ asks)
@@ -295,13 +295,13 @@ entry_read q bs cs n len fits len' fits' is =
     ((has_second (avail_index_at q) (ring_entry_at q) (Some bs) (Some cs) (len, fits) (len', fits') (omega arith)).same cs refl) ∙ sym is
 
 -- what the code tells of a memory whose index asks for the entry
-pub asked_reported :
+pub asked_next :
     (m : Memory) (q : Queue) (i e : Option (List ℕ)) (stage : Stage) → IsLoadOf m 2 (index_load q i) → IsLoadOf m 2 (entry_load q e) →
     asks_entry (next_avail (holding (index_load q i ∷ [])) q) ≡ true →
     ((bs : List ℕ) → length bs ≡ 2 → asks_entry (next_avail (holding (index_load q (Some bs) ∷ [])) q) ≡ true →
     stage ≡ HasResult (next_avail (holding (index_load q (Some bs) ∷ entry_load q e ∷ [])) q)) →
     stage ≡ HasResult (next_avail m q)
-asked_reported m q i e stage is es asks reports =
+asked_next m q i e stage is es asks reports =
     by_reach (reach m Read (avail_index_at q) 2) refl
   where
     by_reach : (b : Bool) → reach m Read (avail_index_at q) 2 ≡ b → stage ≡ HasResult (next_avail m q)

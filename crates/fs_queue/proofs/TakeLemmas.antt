@@ -77,10 +77,10 @@ other_bool true false e = refl
 other_bool false true e = refl
 other_bool _ _ e = absurd (cc)
 
-direction-preserved :
+direction-kept :
     (b : Bool) (d : Descriptor) (ds : List Descriptor) → beq (is_writable d) b ≡ true → of_direction b (d ∷ ds) ≡ d ∷ of_direction b ds
-direction-preserved true d ds e = rw (same_bool (is_writable d) true e)
-direction-preserved false d ds e = rw (same_bool (is_writable d) false e)
+direction-kept true d ds e = rw (same_bool (is_writable d) true e)
+direction-kept false d ds e = rw (same_bool (is_writable d) false e)
 
 direction-other :
     (b : Bool) (d : Descriptor) (ds : List Descriptor) → beq (is_writable d) b ≡ false → of_direction b (d ∷ ds) ≡ of_direction b ds
@@ -132,9 +132,9 @@ pub direction_next : (f : Where) (b : Bool) (ds : List Descriptor) (i : ℕ) (d 
     drop i ds ≡ d ∷ drop (i + 1) ds → beq (is_writable d) b ≡ true →
     after old (located f (xs ++ addresses_of (of_direction b (drop i ds))))
     ≡ after old (located f (xs ++ (addresses d.addr d.len ++ addresses_of (of_direction b (drop (i + 1) ds)))))
-direction_next f b ds i d xs old next preserved =
+direction_next f b ds i d xs old next kept =
     ap (λ (l : List Descriptor). after old (located f (xs ++ addresses_of l)))
-    (ap (of_direction b) next ∙ direction-preserved b d (drop (i + 1) ds) preserved)
+    (ap (of_direction b) next ∙ direction-kept b d (drop (i + 1) ds) kept)
 
 -- one of the other direction does
 pub direction_other : (f : Where) (b : Bool) (ds : List Descriptor) (i : ℕ) (d : Descriptor) (xs : List ℕ) (old : List Place) →

@@ -146,8 +146,8 @@ last_position : stores_after_reply
 last_position = refl
 
 -- bit 0 of the flags alone disables used buffer notifications
-not_reported : notifies (1 ∷ 0xff ∷ []) ≡ false
-not_reported = refl
+not_notified : notifies (1 ∷ 0xff ∷ []) ≡ false
+not_notified = refl
 
-reported : notifies (0xfe ∷ 0xff ∷ []) ≡ true
-reported = refl
+notified : notifies (0xfe ∷ 0xff ∷ []) ≡ true
+notified = refl

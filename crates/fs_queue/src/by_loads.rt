@@ -145,13 +145,13 @@ pub(crate) fn walk_chain<M: GuestMemory, H: HostBlocks>(
         (chain (M.memory mem.now (H.host host.now)) (at_position layout 0) head)) }
 {
     descriptors.clear();
-    let mut preserved = true;
+    let mut kept = true;
     let mut whole_of = queue_table(layout);
     let mut whole = table_bytes(alloc, host, mem, whole_of);
     let mut progress = first;
     'steps: loop {
         match progress {
-            Progress::Ends(walked) => return walked.if_held(preserved),
+            Progress::Ends(walked) => return walked.if_held(kept),
             Progress::Wants(walk) => {
                 let (table, index) = walk.entry();
                 whole = bytes_of(alloc, host, mem, table, whole_of, whole);
@@ -161,7 +161,7 @@ pub(crate) fn walk_chain<M: GuestMemory, H: HostBlocks>(
                 if let Some(descriptor) = given.joins {
                     match descriptors.push(descriptor) {
                         Ok(()) => {}
-                        Err(_) => preserved = false,
+                        Err(_) => kept = false,
                     }
                 }
                 progress = given.then;
@@ -249,7 +249,7 @@ pub(crate) fn walk_ring<M: GuestMemory, H: HostBlocks>(
     mem: &M,
 ) -> Walk
     requires { M.IsHeld mem.now (H.host host.now) }
-    ensures reported { stage_of result
+    ensures next { stage_of result
         ≡ HasResult (next_avail (M.memory mem.now (H.host host.now)) (at_position layout position)) }
     ensures chain { BeginsChain layout result }
     ensures stops { IfRefuses result (λ e. IsTrue (stops_queue e)) }
@@ -262,6 +262,6 @@ pub(crate) fn walk_ring<M: GuestMemory, H: HostBlocks>(
             let entry = load_from_ring(alloc, layout, host, mem, ring, offset);
             walk.give(entry)
         }
-        reported => reported,
+        other => other,
     }
 }

@@ -37,12 +37,12 @@ impl WalkEnd {
     ghost use Rattle.fs_queue.specs.declared.chain_walk.WalkEnd.TheVariants as ended;
 
     // The result of a walk that ended. AllocError if it is a chain whose descriptors weren't all kept.
-    pub(crate) fn if_held(self, preserved: bool) -> Result<WalkEnd, AllocError>
-        ensures same { IfOk result (λ w. (w ≡ self) × (self ≡ ended.Chain → preserved ≡ true)) }
-        ensures lost { OnErr result ((self ≡ ended.Chain) × (preserved ≡ false)) }
+    pub(crate) fn if_held(self, kept: bool) -> Result<WalkEnd, AllocError>
+        ensures same { IfOk result (λ w. (w ≡ self) × (self ≡ ended.Chain → kept ≡ true)) }
+        ensures lost { OnErr result ((self ≡ ended.Chain) × (kept ≡ false)) }
     {
         match self {
-            WalkEnd::Chain if !preserved => Err(AllocError),
+            WalkEnd::Chain if !kept => Err(AllocError),
             _ => Ok(self),
         }
     }

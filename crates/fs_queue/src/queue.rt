@@ -237,7 +237,7 @@ impl Queue {
             →
             record m { host = H.host host.new }
             ≡ returned m self.old taken.old.head (room_of fetched) reply.now }
-        ensures reported { (m : Memory) (fetched : RequestAndRoom)
+        ensures wanted { (m : Memory) (fetched : RequestAndRoom)
             → m.host ≡ H.host host.old
             → IsTaken m self.old fetched taken.old
             →
@@ -274,7 +274,7 @@ impl Queue {
             IsTaken m self.old fetched taken.old
             →
             record m { host = H.host host.new } ≡ returned m self.old taken.old.head (room_of fetched) reply }
-        ensures reported { (m : Memory) (fetched : RequestAndRoom) (reply : List ℕ)
+        ensures wanted { (m : Memory) (fetched : RequestAndRoom) (reply : List ℕ)
             →
             PutFrontLast m.host (H.host host.old) (chain_places taken.old.chain) front.now reply
             → IsTaken m self.old fetched taken.old

@@ -381,7 +381,7 @@ fn walk_and_hold<M: GuestMemory, H: HostBlocks>(
     first: Progress,
     limit: u32,
     descriptors: &mut Descriptors,
-    preserved: &mut Chain,
+    kept: &mut Chain,
 ) -> Result<Option<ChainFault>, QueueError>
     requires held { M.IsHeld mem.now (H.host host.now) }
     requires at { ahead_of first ≡ ahead_at layout.size (first_visit (at_position layout 0) head) }
@@ -389,16 +389,16 @@ fn walk_and_hold<M: GuestMemory, H: HostBlocks>(
     ensures fetched { let m = M.memory mem.now (H.host host.now) in
         IfOk result
         (λ fault. HoldsFound m limit (chain m (at_position layout 0) head)
-        (unless_faulty fault preserved.new)) }
+        (unless_faulty fault kept.new)) }
     ensures refused { let m = M.memory mem.now (H.host host.now) in
         IfErr result (RefusesHeld limit descriptors.old.capacity (chain m (at_position layout 0) head)) }
     ensures windows { let m = M.memory mem.now (H.host host.now) in
         IfOk result
-        (λ fault. HoldsWindows m head (unless_faulty fault preserved.new)
+        (λ fault. HoldsWindows m head (unless_faulty fault kept.new)
         (chain m (at_position layout 0) head)) }
     ensures lie { IfOk result
-        (λ fault. ChainLiesIn (lengths (H.host host.now)) (unless_faulty fault preserved.new)) }
-    ensures short { IfOk result (λ fault. room_places (unless_faulty fault preserved.new) ≤ limit) }
+        (λ fault. ChainLiesIn (lengths (H.host host.now)) (unless_faulty fault kept.new)) }
+    ensures short { IfOk result (λ fault. room_places (unless_faulty fault kept.new) ≤ limit) }
 {
     match walk_chain(alloc, layout, host, mem, head, first, descriptors) {
         Ok(WalkEnd::Chain) => {}
@@ -406,7 +406,7 @@ fn walk_and_hold<M: GuestMemory, H: HostBlocks>(
         Ok(WalkEnd::Stopped) => return Err(QueueError::DescriptorUnreachable),
         Err(_) => return Err(QueueError::OutOfMemory),
     }
-    match hold_chain(alloc, host, mem, head, descriptors, limit, preserved) {
+    match hold_chain(alloc, host, mem, head, descriptors, limit, kept) {
         Ok(fault) => Ok(fault),
         Err(_) => Err(QueueError::OutOfMemory),
     }

@@ -16,7 +16,7 @@ use Rattle.vm_values.specs.Fields.{spelled, AllFit}
 use Rattle.fs_record.specs.Fields.{head_fields}
 use Rattle.fs_record.specs.Record.{Version, Second, ProceedsWith, HasItsBits, IsRecordFor, head_error, head_of, record_front, queue_bytes}
 use Rattle.fs_record.specs.Record.{end_bytes, IsSavedQueue}
-use Rattle.fs_record.specs.Restoring.{IsRecordFront, RefusesRecord, RefusesQueue, RefusesEnd, LeavesSource, reported_by}
+use Rattle.fs_record.specs.Restoring.{IsRecordFront, RefusesRecord, RefusesQueue, RefusesEnd, LeavesSource, versioned}
 use Rattle.fs_record.specs.declared.fields.RecordHead.{RecordHead}
 use Rattle.fs_record.specs.declared.fields.RecordVersion.{RecordVersion}
 use Rattle.fs_record.specs.declared.fields.RecordVersion.TheVariants as versions
@@ -92,39 +92,39 @@ leaves_too e has before failed fails same h = subst (λ (b : Bool). LeavesSource
 -- ---- what stands behind the queues
 
 -- a version, with a page size and a limit, goes with them
-pub proceeds_with : (v : RecordVersion) (page_size limit : ℕ) → ProceedsWith page_size limit (reported_by v page_size limit)
+pub proceeds_with : (v : RecordVersion) (page_size limit : ℕ) → ProceedsWith page_size limit (versioned v page_size limit)
 proceeds_with versions.First page_size limit = inl refl
 proceeds_with versions.Second page_size limit = inr refl
 
 -- a front doesn't tell the limit
 pub with_limit : (v : RecordVersion) (bytes : List ℕ) (page_size limit options count : ℕ) (queues : List Queue)
-    → IsRecordFront bytes (reported_by v page_size 0) options count queues
-    → IsRecordFront bytes (reported_by v page_size limit) options count queues
+    → IsRecordFront bytes (versioned v page_size 0) options count queues
+    → IsRecordFront bytes (versioned v page_size limit) options count queues
 with_limit versions.First bytes page_size limit options count queues front = front
 with_limit versions.Second bytes page_size limit options count queues front = front
 
 -- the end doesn't tell the page size
-same_end : (v : RecordVersion) (page_size limit : ℕ) → end_bytes (reported_by v 0 limit) ≡ end_bytes (reported_by v page_size limit)
+same_end : (v : RecordVersion) (page_size limit : ℕ) → end_bytes (versioned v 0 limit) ≡ end_bytes (versioned v page_size limit)
 same_end versions.First page_size limit = refl
 same_end versions.Second page_size limit = refl
 
-has_its_bits : (v : RecordVersion) (page_size limit : ℕ) → page_size < 2 ^ 32 → limit < 2 ^ 64 → HasItsBits (reported_by v page_size limit)
+has_its_bits : (v : RecordVersion) (page_size limit : ℕ) → page_size < 2 ^ 32 → limit < 2 ^ 64 → HasItsBits (versioned v page_size limit)
 has_its_bits versions.First page_size limit a b = tt
 has_its_bits versions.Second page_size limit a b = (a, b)
 
 -- a front with all its queues, and the end behind it, are a record
 pub whole_record :
     (bytes : List ℕ) (v : RecordVersion) (page_size limit options count : ℕ) (queues : List Queue) → page_size < 2 ^ 32 → limit < 2 ^ 64
-    → IsRecordFront bytes (reported_by v page_size limit) options count queues → length queues ≡ count
-    → IsRecordFor (bytes ++ end_bytes (reported_by v 0 limit)) page_size limit options queues
+    → IsRecordFront bytes (versioned v page_size limit) options count queues → length queues ≡ count
+    → IsRecordFor (bytes ++ end_bytes (versioned v 0 limit)) page_size limit options queues
 whole_record bytes v page_size limit options count queues small low front all =
-    let reported = reported_by v page_size limit in (
-      reported,
+    let version = versioned v page_size limit in (
+      version,
       proceeds_with v page_size limit,
       (
-        ap (λ l. l ++ end_bytes (reported_by v 0 limit)) front.0
-            ∙ ap (λ n. record_front reported options n queues ++ end_bytes (reported_by v 0 limit)) (sym all)
-            ∙ ap (λ l. record_front reported options (length queues) queues ++ l) (same_end v page_size limit),
+        ap (λ l. l ++ end_bytes (versioned v 0 limit)) front.0
+            ∙ ap (λ n. record_front version options n queues ++ end_bytes (versioned v 0 limit)) (sym all)
+            ∙ ap (λ l. record_front version options (length queues) queues ++ l) (same_end v page_size limit),
         has_its_bits v page_size limit small low,
         (front.1, omega (arith, front.2, all), omega (arith, front.3, all), front.5),
       ),
@@ -132,13 +132,13 @@ whole_record bytes v page_size limit options count queues small low front all =
 
 -- what is wrong behind the queues, of version 2
 second_front : (bytes : List ℕ) (v : RecordVersion) (page_size limit options count : ℕ) (queues : List Queue) → v ≡ versions.Second
-    → IsRecordFront bytes (reported_by v page_size limit) options count queues
+    → IsRecordFront bytes (versioned v page_size limit) options count queues
     → IsRecordFront bytes (Second page_size limit) options count queues
 second_front bytes v page_size limit options count queues is front =
-    subst (λ (w : RecordVersion). IsRecordFront bytes (reported_by w page_size limit) options count queues) is front
+    subst (λ (w : RecordVersion). IsRecordFront bytes (versioned w page_size limit) options count queues) is front
 
 pub end_refuses : (bytes part : List ℕ) (v : RecordVersion) (page_size limit options count : ℕ) (queues : List Queue) (e : RestoreError)
-    → IsRecordFront bytes (reported_by v page_size limit) options count queues → length queues ≡ count → RefusesEnd part v limit e
+    → IsRecordFront bytes (versioned v page_size limit) options count queues → length queues ≡ count → RefusesEnd part v limit e
     → RefusesRecord (bytes ++ part) page_size limit e
 end_refuses bytes part v page_size limit options count queues Truncated front all h =
     inr (inr (options, count, queues, bytes, part, second_front bytes v page_size limit options count queues h.0 front, all, refl, h.1))

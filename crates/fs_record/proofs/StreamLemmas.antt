@@ -57,11 +57,11 @@ read_less at n buf more a b c short none before last =
     (take at buf ++ [], rw append-nil (omega (arith, short, front)), Consumes-trans a b c (take at buf) [] before nothing)
 
 -- what was read before a source failed
-pub read_preserved : (at : ℕ) (buf : List ℕ) (a b c : Option (List ℕ)) → at < length buf → Consumes a b (take at buf) → Keeps b c
+pub read_kept : (at : ℕ) (buf : List ℕ) (a b c : Option (List ℕ)) → at < length buf → Consumes a b (take at buf) → Keeps b c
     → (part : List ℕ) × (length part < length buf) × Consumes a c part
-read_preserved at buf a b c short before preserved =
+read_kept at buf a b c short before keeps =
     let front : length (take at buf) ≡ at = length-take-le at buf (omega (arith, short)) in
-    (take at buf, omega (arith, short, front), Consumes-kept a b c (take at buf) before preserved)
+    (take at buf, omega (arith, short, front), Consumes-kept a b c (take at buf) before keeps)
 
 -- a part of one piece went out behind those before it, and not all of it
 pub part_leaves : (whole done one later part rest : List ℕ) (a b c : Option (List ℕ)) → whole ≡ done ++ (one ++ later)

@@ -134,6 +134,6 @@ RefusesEnd bytes version limit Mismatch =
 RefusesEnd bytes version limit _ = ⊥
 
 -- a version with the page size and the limit that version 2 has
-abbrev pub reported_by : RecordVersion → (page_size limit : ℕ) → Version
-reported_by versions.First page_size limit = First
-reported_by versions.Second page_size limit = Second page_size limit
+abbrev pub versioned : RecordVersion → (page_size limit : ℕ) → Version
+versioned versions.First page_size limit = First
+versioned versions.Second page_size limit = Second page_size limit

@@ -8,7 +8,7 @@ ghost use Rattle.fs_record.specs.Record.{HasKnownBits, IsRecordFor, IsSavedQueue
 ghost use Rattle.fs_record.specs.Record.{head_of, saved, queue_bytes};
 ghost use Rattle.fs_record.specs.Record.{is_queue, version_number};
 ghost use Rattle.fs_record.specs.Restoring.{LeavesSource, RefusesEnd, RefusesRecord, RefusesQueue};
-ghost use Rattle.fs_record.specs.Restoring.{IsRecordFront, ends_early, reported_by};
+ghost use Rattle.fs_record.specs.Restoring.{IsRecordFront, ends_early, versioned};
 
 use crate::error::RestoreError;
 use crate::fields::{RecordHead, RecordVersion, SavedQueue};
@@ -80,7 +80,7 @@ struct CheckedHead {
 impl RecordHead {
     // The record's version, or None if it is neither 1 nor 2.
     fn record_version(&self) -> Option<RecordVersion>
-        ensures some { IfSome result (λ v. self.now.version ≡ version_number (reported_by v 0 0)) }
+        ensures some { IfSome result (λ v. self.now.version ≡ version_number (versioned v 0 0)) }
         ensures none { IfNone result ((self.now.version == 1 || self.now.version == 2) ≡ false) }
     {
         match self.version {
@@ -93,7 +93,7 @@ impl RecordHead {
     // The checked head for guest pages of this size, or the first error that applies.
     fn checked(&self, page_size: u32) -> Result<CheckedHead, RestoreError>
         ensures ok { IfOk result (λ h. (head_error page_size self.now ≡ None)
-            × (self.now ≡ head_of (reported_by h.version page_size 0) h.options.0 h.count)
+            × (self.now ≡ head_of (versioned h.version page_size 0) h.options.0 h.count)
             × HasKnownBits h.options.0
             × (1 ≤ h.count)
             × (h.count ≤ 64)) }
@@ -148,7 +148,7 @@ impl SavedQueue {
 fn read_head<S: RecordSource>(source: &mut S, page_size: u32) -> Result<CheckedHead, RestoreError>
     ensures ok { IfOk result (λ h. (taken : List ℕ)
         × Consumes (S.left source.old) (S.left source.new) taken
-        × IsRecordFront taken (reported_by h.version page_size 0) h.options.0 h.count []
+        × IsRecordFront taken (versioned h.version page_size 0) h.options.0 h.count []
         × (S.failed source.new ≡ S.failed source.old)) }
     ensures err { (limit : ℕ)
         → IfErr result (λ e. (taken : List ℕ)
@@ -181,7 +181,7 @@ fn read_end<S: RecordSource>(
     limit: u32,
 ) -> Result<(), RestoreError>
     ensures ok { OnOk result
-        (Consumes (S.left source.old) (S.left source.new) (end_bytes (reported_by version 0 limit))
+        (Consumes (S.left source.old) (S.left source.new) (end_bytes (versioned version 0 limit))
         × (S.failed source.new ≡ S.failed source.old)) }
     ensures err { IfErr result (λ e. (taken : List ℕ)
         × Consumes (S.left source.old) (S.left source.new) taken
@@ -191,8 +191,8 @@ fn read_end<S: RecordSource>(
     match version {
         RecordVersion::First => Ok(()),
         RecordVersion::Second => {
-            let reported: u64 = next_value(source)?;
-            if reported == u64::from(limit) {
+            let found: u64 = next_value(source)?;
+            if found == u64::from(limit) {
                 Ok(())
             } else {
                 Err(RestoreError::Mismatch)

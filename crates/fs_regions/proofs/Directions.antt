@@ -16,20 +16,20 @@ use Rattle.fs_queue.specs.Taking.{all_reach, total_len, access_of, addresses_of,
 use Rattle.fs_regions.specs.Places.{Mapped, left_in, places_in}
 use Rattle.fs_regions.specs.Windows.{HasNoWindowFrom, IsByteOf, IsWindowFrom}
 
-abbrev preserved : Bool → Descriptor → List Descriptor → List Descriptor
-preserved true d ds = d ∷ ds
-preserved false d ds = ds
+abbrev kept : Bool → Descriptor → List Descriptor → List Descriptor
+kept true d ds = d ∷ ds
+kept false d ds = ds
 
 by_bit : (b w : Bool) (d : Descriptor) (ds : List Descriptor) → is_writable d ≡ w →
-    of_direction b (d ∷ ds) ≡ preserved (beq w b) d (of_direction b ds)
+    of_direction b (d ∷ ds) ≡ kept (beq w b) d (of_direction b ds)
 by_bit true true d ds is = rw is refl
 by_bit true false d ds is = rw is refl
 by_bit false true d ds is = rw is refl
 by_bit false false d ds is = rw is refl
 
 direction : (b x : Bool) (d : Descriptor) (ds : List Descriptor) → beq (is_writable d) b ≡ x →
-    of_direction b (d ∷ ds) ≡ preserved x d (of_direction b ds)
-direction b x d ds is = by_bit b (is_writable d) d ds refl ∙ ap (λ (y : Bool). preserved y d (of_direction b ds)) is
+    of_direction b (d ∷ ds) ≡ kept x d (of_direction b ds)
+direction b x d ds is = by_bit b (is_writable d) d ds refl ∙ ap (λ (y : Bool). kept y d (of_direction b ds)) is
 
 -- so many bytes of the descriptors that are left are still to be skipped: they begin with the bytes from one on, and have places if all
 -- have; the others come before

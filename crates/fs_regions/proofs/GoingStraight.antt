@@ -35,7 +35,7 @@ use Rattle.fs_regions.specs.declared.walk.QueueWalk.TheVariants as at
 use Rattle.fs_regions.proofs.Fetching.{fetches}
 use Rattle.fs_regions.proofs.Finding.{brings_none}
 use Rattle.fs_regions.proofs.Going.{begins_so, proceeds_nowhere, carries_on}
-use Rattle.fs_regions.proofs.Steps.{after_index, begins_of, ends, entry_asked, entry_reported, finds, head_waits, loaded_pair, not_none}
+use Rattle.fs_regions.proofs.Steps.{after_index, begins_of, ends, entry_asked, entry_given, finds, head_waits, loaded_pair, not_none}
 use Rattle.fs_regions.proofs.Steps.{reports_both, whole_pair}
 use Rattle.fs_regions.proofs.Stretching.{comes_by, window_reaches}
 
@@ -174,14 +174,14 @@ proceeds_by_entry g limit q w ahead one more bytes pair given old new found is_f
     → ComesBy m limit q loaded (at.RingEntry w) mine old.items (step.Load (at.Entries to)) =
     λ loaded stands.
     let index = loaded_pair loaded.index stands.1 in
-    let reported =
-    entry_reported (at_position w.layout w.position) q loaded.index (Some mine) index.0 given stands.0 index.1 index.2 stands.2
+    let with_entry =
+    entry_given (at_position w.layout w.position) q loaded.index (Some mine) index.0 given stands.0 index.1 index.2 stands.2
     reports in
     let by_both = reports_both m q loaded.index (Some mine) given (whole_pair loaded.index stands.1) stands.2
     (eq-eqb (length mine) 2 long)
     (λ none. not_none loaded.index stands.1 none) (λ none. absurd (cc)) (λ none. not_none loaded.index stands.1 none)
     (λ none. absurd (cc))
-    (begins_of w.layout w.position q given stands.0 begins) reported in
+    (begins_of w.layout w.position q given stands.0 begins) with_entry in
     let chain = head_waits m q (record { index = loaded.index; entry = Some mine; entries = [] }) head (shows.Wants next)
     (subst (λ (x : ring.Walk). ReportsBy m q (record { index = loaded.index; entry = Some mine; entries = [] }) x) by.2 by_both) in
     let may : HeadMayBePushed m q (record loaded { entry = Some mine }) head =

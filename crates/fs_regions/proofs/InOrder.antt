@@ -23,9 +23,9 @@ use Rattle.fs_regions.proofs.Stretching.{entry_len, some_more}
 
 -- ---- the list's front stays
 
-pub preserved_all : (old : List Descriptor) → take (length old) old ≡ old
-preserved_all [] = refl
-preserved_all (d ∷ old) = ap (λ (l : List Descriptor). d ∷ l) (preserved_all old)
+pub kept_all : (old : List Descriptor) → take (length old) old ≡ old
+kept_all [] = refl
+kept_all (d ∷ old) = ap (λ (l : List Descriptor). d ∷ l) (kept_all old)
 
 pushed : (old now : List Descriptor) (d : Descriptor) → take (length old) now ≡ old → take (length old) (now ++ d ∷ []) ≡ old
 pushed [] now d is = refl
@@ -35,9 +35,9 @@ pushed (x ∷ old) (y ∷ now) d is =
     let tail : take (length old) now ≡ old = ap (drop 1) is in
     ap (λ (z : Descriptor). z ∷ take (length old) (now ++ d ∷ [])) head ∙ ap (λ (l : List Descriptor). x ∷ l) (pushed old now d tail)
 
-pub preserved : (old now new : List Descriptor) (d : Descriptor) → new ≡ now ++ d ∷ [] → take (length old) now ≡ old
+pub kept : (old now new : List Descriptor) (d : Descriptor) → new ≡ now ++ d ∷ [] → take (length old) now ≡ old
     → take (length old) new ≡ old
-preserved old now new d is front = ap (take (length old)) is ∙ pushed old now d front
+kept old now new d is front = ap (take (length old)) is ∙ pushed old now d front
 
 -- ---- a step
 

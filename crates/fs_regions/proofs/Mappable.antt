@@ -48,22 +48,22 @@ same_range : (x r : IovaRange) → Some x ≡ Some r → x ≡ r
 same_range x r e = cc
 
 -- the first range that a test keeps is one of them
-by_test : (b : Bool) (a e : ℕ) (x r : IovaRange) (preserved : List IovaRange) → IsWithin a e x
-    → (first_of preserved ≡ Some r → IsWithin a e r) →
-    first_of (if b then x ∷ preserved else preserved) ≡ Some r → IsWithin a e r
-by_test true a e x r preserved within rest is = subst (IsWithin a e) (same_range x r is) within
-by_test false a e x r preserved within rest is = rest is
+by_test : (b : Bool) (a e : ℕ) (x r : IovaRange) (kept : List IovaRange) → IsWithin a e x
+    → (first_of kept ≡ Some r → IsWithin a e r) →
+    first_of (if b then x ∷ kept else kept) ≡ Some r → IsWithin a e r
+by_test true a e x r kept within rest is = subst (IsWithin a e) (same_range x r is) within
+by_test false a e x r kept within rest is = rest is
 
-first_preserved : (p : IovaRange → Bool) (a e : ℕ) (l : List IovaRange) (r : IovaRange) → AreWithin a e l → first_of (filter p l) ≡ Some r →
+first_kept : (p : IovaRange → Bool) (a e : ℕ) (l : List IovaRange) (r : IovaRange) → AreWithin a e l → first_of (filter p l) ≡ Some r →
     IsWithin a e r
-first_preserved p a e [] r all is = absurd (cc)
-first_preserved p a e (x ∷ xs) r all is = by_test (p x) a e x r (filter p xs) all.0 (first_preserved p a e xs r all.1) is
+first_kept p a e [] r all is = absurd (cc)
+first_kept p a e (x ∷ xs) r all is = by_test (p x) a e x r (filter p xs) all.0 (first_kept p a e xs r all.1) is
 
 -- the first missing range of n addresses from a on
 missed_within : (table : Table) (a n : ℕ) (r : IovaRange) → first_of (missing table a n) ≡ Some r → IsWithin a (a + n) r
 unfolding missing
 missed_within table a n r is =
-    first_preserved (λ k. misses (table k.base.0)) a (a + n) (runs table a n) r (run_within table a (a + n) n refl) is
+    first_kept (λ k. misses (table k.base.0)) a (a + n) (runs table a n) r (run_within table a (a + n) n refl) is
 
 by_tests : (t b : Bool) (table : Table) (a n : ℕ) (r : IovaRange) → nat_le (a + n) last_page ≡ b →
     first_of (if t && b then missing table a n else []) ≡ Some r → IsWithin 0 last_page r

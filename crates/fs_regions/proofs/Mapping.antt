@@ -35,21 +35,21 @@ run_may (suc n) a table access first =
     ] refl
 
 -- a run that was told within a bound
-pub run_reported : (k most a : ℕ) (table : Table) → k ≡ run_len table a most → run_len table a k ≡ k
-run_reported k most a table is =
+pub run_is : (k most a : ℕ) (table : Table) → k ≡ run_len table a most → run_len table a k ≡ k
+run_is k most a table is =
     let few = run_len-most most a table in
     let short = run_len-min k most a table (omega (arith, is, few)) in
     omega (arith, short, is)
 
-pub reported_may : (k most a : ℕ) (table : Table) (access : Permissions) → k ≡ run_len table a most → may_pass access (table a) ≡ true →
+pub may_on_run : (k most a : ℕ) (table : Table) (access : Permissions) → k ≡ run_len table a most → may_pass access (table a) ≡ true →
     may_all table access a k ≡ true
-reported_may k most a table access is first = rw is (run_may most a table access first)
+may_on_run k most a table access is first = rw is (run_may most a table access first)
 
 -- how long a window of it is
-pub left_reported : (most a k len left : ℕ) (table : Table) (l : List Region) → a + k < 2 ^ 64 → k ≡ run_len table a most →
+pub run_left : (most a k len left : ℕ) (table : Table) (l : List Region) → a + k < 2 ^ 64 → k ≡ run_len table a most →
     left ≡ left_at l (target_of (table a)) → len ≡ min k left →
     len ≡ min most (translated_left l table a)
-left_reported most a k len left table l fits is at e =
+run_left most a k len left table l fits is at e =
     let few = run_len-most most a table in
     elim (cases_lt (2 ^ 64 - a) most) [
       | inl high ↦ let all = run_len-min (2 ^ 64 - a) most a table (omega (arith, high)) in omega (arith, all, is, at, e, fits, few)

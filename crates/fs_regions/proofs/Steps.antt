@@ -110,10 +110,10 @@ asks false next e = absurd (cc)
 pub entry_asked : (next : NextAvail) → AsksEntry ≡ stage_at next → asks_entry next ≡ true
 entry_asked next e = asks (asks_entry next) next e
 
-reported_or_asks : (b : Bool) (next : NextAvail) (s : Stage) → (s ≡ AsksEntry → ⊥) → s ≡ (if b then AsksEntry else HasResult next) →
+result_or_asks : (b : Bool) (next : NextAvail) (s : Stage) → (s ≡ AsksEntry → ⊥) → s ≡ (if b then AsksEntry else HasResult next) →
     (s ≡ HasResult next) × (b ≡ false)
-reported_or_asks true next s not_entry e = absurd (not_entry e)
-reported_or_asks false next s not_entry e = (e, refl)
+result_or_asks true next s not_entry e = absurd (not_entry e)
+result_or_asks false next s not_entry e = (e, refl)
 
 not_entry_of : (w : code.Walk) → ((x : RingEntryWalk) → w ≡ shows.RingEntry x → ⊥) → stage_of w ≡ AsksEntry → ⊥
 not_entry_of (shows.RingEntry x) other e = other x refl
@@ -136,14 +136,14 @@ pub reports_alone : (m : Memory) (q : Queue) (index : Option (List ℕ)) (w : co
     ((x : RingEntryWalk) → w ≡ shows.RingEntry x → ⊥) →
     ReportsBy m q (record nothing { index = index }) w
 reports_alone m q index w stands other =
-    let reported = reported_or_asks (asks_entry (by_index q index)) (by_index q index) (stage_of w) (not_entry_of w other) stands.stage in
+    let with_entry = result_or_asks (asks_entry (by_index q index)) (by_index q index) (stage_of w) (not_entry_of w other) stands.stage in
     record {
       next = by_index q index;
-      reports = reported.0;
-      by_loads = by_alone q index stands.whole reported.1;
+      reports = with_entry.0;
+      by_loads = by_alone q index stands.whole with_entry.1;
       no_entries = refl;
-      asked = (stands.asked, λ none it_asks. no_more (asks_entry (by_index q index)) reported.1 it_asks);
-      no_miss = (stands.no_miss, λ none it_asks. no_more (asks_entry (by_index q index)) reported.1 it_asks);
+      asked = (stands.asked, λ none it_asks. no_more (asks_entry (by_index q index)) with_entry.1 it_asks);
+      no_miss = (stands.no_miss, λ none it_asks. no_more (asks_entry (by_index q index)) with_entry.1 it_asks);
       begins = stands.begins;
     }
 
@@ -154,9 +154,9 @@ pub reports_both : (m : Memory) (q : Queue) (index entry : Option (List ℕ)) (w
     (index ≡ None → first_miss m (needed_at q OfIndex) ≡ None) → (entry ≡ None → first_miss m (needed_at q OfRingEntry) ≡ None) →
     BeginsIfChain q w → stage_of w ≡ HasResult (by_entry q index entry) →
     ReportsBy m q (record { index = index; entry = entry; entries = [] }) w
-reports_both m q index entry w whole asks_it whole_entry no_index no_entry index_there entry_there begins reported = record {
+reports_both m q index entry w whole asks_it whole_entry no_index no_entry index_there entry_there begins with_entry = record {
   next = by_entry q index entry;
-  reports = reported;
+  reports = with_entry;
   by_loads = by_both q index entry whole asks_it whole_entry;
   no_entries = refl;
   asked = (no_index, λ none it_asks. no_entry none);
@@ -186,11 +186,11 @@ head_waits m q loaded head progress reports = record {
 }
 
 -- what both loads tell, by what the code answers
-pub entry_reported : (p q : Queue) (index entry : Option (List ℕ)) (bs : List ℕ) (w : code.Walk) → p ≡ q → index ≡ Some bs → length bs ≡ 2 →
+pub entry_given : (p q : Queue) (index entry : Option (List ℕ)) (bs : List ℕ) (w : code.Walk) → p ≡ q → index ≡ Some bs → length bs ≡ 2 →
     asks_entry (by_index q index) ≡ true →
     ((i : List ℕ) → length i ≡ 2 → asks_entry (by_index p (Some i)) ≡ true → stage_of w ≡ HasResult (by_entry p (Some i) entry)) →
     stage_of w ≡ HasResult (by_entry q index entry)
-entry_reported p q index entry bs w same is long asks_it reports =
+entry_given p q index entry bs w same is long asks_it reports =
     let here : (i : List ℕ) → length i ≡ 2 → asks_entry (by_index q (Some i)) ≡ true → stage_of w ≡ HasResult (by_entry q (Some i) entry) =
     subst (λ (x : Queue). (i : List ℕ) → length i ≡ 2 → asks_entry (by_index x (Some i)) ≡ true →
     stage_of w ≡ HasResult (by_entry x (Some i) entry)) same reports in
@@ -238,7 +238,7 @@ not_none (Some bs) is none = absurd (cc)
 
 -- an index that isn't mapped doesn't ask for the entry
 pub without_entry : (q : Queue) (w : code.Walk) → stage_of w ≡ stage_at (by_index q None) → (x : RingEntryWalk) → w ≡ shows.RingEntry x → ⊥
-without_entry q w is x e = not_reported (ap stage_of (sym e) ∙ is ∙ ap stage_at (index_lost q))
+without_entry q w is x e = not_given (ap stage_of (sym e) ∙ is ∙ ap stage_at (index_lost q))
   where
-    not_reported : AsksEntry ≡ HasResult (Refused AvailIndexUnreachable) → ⊥
-    not_reported same = cc
+    not_given : AsksEntry ≡ HasResult (Refused AvailIndexUnreachable) → ⊥
+    not_given same = cc

@@ -91,7 +91,7 @@ impl Course {
                     self.without_index(regions, walk, descriptors)
                 }
             }
-            other => self.reported(regions, other, descriptors),
+            other => self.step_of(regions, other, descriptors),
         }
     }
 
@@ -118,7 +118,7 @@ impl Course {
                 self.at_index(regions, walk.give(Some(pair(bytes))), descriptors)
             }
             QueueWalk::RingEntry(walk) => {
-                self.reported(regions, walk.give(Some(pair(bytes))), descriptors)
+                self.step_of(regions, walk.give(Some(pair(bytes))), descriptors)
             }
             QueueWalk::Entries(walk) => self.give_entries(regions, walk, bytes, descriptors),
         }
@@ -163,7 +163,7 @@ impl Course {
     {
         match regions.miss(walk.address(), 2, Permissions::Read) {
             Some((range, access)) => CourseStep::Missing(range, access),
-            None => self.reported(regions, walk.give(None), descriptors),
+            None => self.step_of(regions, walk.give(None), descriptors),
         }
     }
 
@@ -188,7 +188,7 @@ impl Course {
     {
         match regions.miss(walk.address(), 2, Permissions::Read) {
             Some((range, access)) => CourseStep::Missing(range, access),
-            None => self.reported(regions, walk.give(None), descriptors),
+            None => self.step_of(regions, walk.give(None), descriptors),
         }
     }
 
@@ -209,13 +209,13 @@ impl Course {
                     self.without_ring_entry(regions, walk, descriptors)
                 }
             }
-            other => self.reported(regions, other, descriptors),
+            other => self.step_of(regions, other, descriptors),
         }
     }
 
     // The step after the ring's loads: a chain, none, or a refusal.
     #[inline(always)]
-    fn reported(&self, regions: &GuestMap, walk: Walk, descriptors: &[Descriptor]) -> CourseStep
+    fn step_of(&self, regions: &GuestMap, walk: Walk, descriptors: &[Descriptor]) -> CourseStep
         ensures { (loaded : Loaded)
             → ReportsBy (places_in regions.now) (queue_of self.now) loaded walk
             → descriptors.now ≡ []

@@ -58,7 +58,7 @@ fn is_whole(walk: &ChainWalk, entries: u16) -> bool
 // Reads the entries of a whole table, from its first one on, while each names the one behind it as the
 // next: whether a chain ends so. The descriptors that were read join the list.
 #[inline(always)]
-#[tactic(auto, using(crate::proofs::InOrder::preserved))]
+#[tactic(auto, using(crate::proofs::InOrder::kept))]
 fn read_in_order(
     walk: &ChainWalk,
     entries: u16,

@@ -23,7 +23,7 @@ use Rattle.fs_shared.specs.JournalPages.{DiffersWithin, joined_pages}
 use Rattle.fs_shared.specs.Marks.{AccountsFor, AccountsSince, Harvest, LeavesMarked}
 use Rattle.fs_shared.proofs.Differing.{journals_tell_pages}
 use Rattle.fs_shared.proofs.Gathering.{accounts_for, bit_below}
-use Rattle.fs_shared.proofs.SincePreserved.{ReportedSince}
+use Rattle.fs_shared.proofs.SinceKept.{MarkedSince}
 
 -- a page of all entries is one of some entry
 entry_has : (page : ℕ) (entries : List JournalEntry) → Contains (joined_pages (journal_of entries)) page
@@ -66,10 +66,10 @@ receipt_reports : (page : ℕ) (journal : List JournalEntry) (receipts : List Re
 receipt_reports page journal receipts all here =
     let e = entry_has page journal here in
     let r = receipt_has e.0 receipts (all.once e.0 e.1) in
-    let reported = subst (λ (n : ℕ). IsSomeAnd (slice_get journal n) (λ (x : JournalEntry). IsReceiptOf x r.0)) r.2
-    (All-contains (MatchesJournal journal) receipts r.0 all.reported r.1) in
+    let is_marked = subst (λ (n : ℕ). IsSomeAnd (slice_get journal n) (λ (x : JournalEntry). IsReceiptOf x r.0)) r.2
+    (All-contains (MatchesJournal journal) receipts r.0 all.matched r.1) in
     let both = both_of_some (λ (x : JournalEntry). IsReceiptOf x r.0) (λ (x : JournalEntry). Contains x.pages.items page)
-    (slice_get journal e.0) reported e.2 in
+    (slice_get journal e.0) is_marked e.2 in
     (r.0, r.1, subst (λ (pages : List ℕ). Contains pages page) (sym both.1.pages) both.2)
 
 -- the words of the last gather, by all passes, account for each page in which the hosts differ
@@ -80,11 +80,11 @@ pub accounts : (share : Pass) (h : Harvest) (journal : List JournalEntry) (befor
     → AccountsFor share h journal before after words
 accounts share h journal before after words mine theirs none settles differs whole receipts all marked p apart below =
     let page = page_of (lengths before) p in
-    let reported = receipt_reports page journal receipts all (differs.bytes p apart) in
+    let is_marked = receipt_reports page journal receipts all (differs.bytes p apart) in
     let long = length-each_tally (λ p t. both_of t (tally_of share.counts.pages p)) 0 h.pass.counts.pages in
     accounts_for h share words page (omega arith) (settles whole page (omega arith))
     (All-contains (λ (r : Receipt). (n : ℕ) → n < length share.counts.pages → Contains r.pages.items n →
-    (tally_of share.counts.pages n).marked ≡ true) receipts reported.0 marked reported.1 page (omega arith) reported.2)
+    (tally_of share.counts.pages n).marked ≡ true) receipts is_marked.0 marked is_marked.1 page (omega arith) is_marked.2)
     (none page)
 
 -- ---- what was marked since the last gather
@@ -104,10 +104,10 @@ receipt_since : (page first : ℕ) (journal : List JournalEntry) (receipts : Lis
 receipt_since page first journal receipts all here =
     let e = entry_since page first journal here in
     let r = receipt_has e.0 receipts (all.once e.0 e.2) in
-    let reported = subst (λ (n : ℕ). IsSomeAnd (slice_get journal n) (λ (x : JournalEntry). IsReceiptOf x r.0)) r.2
-    (All-contains (MatchesJournal journal) receipts r.0 all.reported r.1) in
+    let is_marked = subst (λ (n : ℕ). IsSomeAnd (slice_get journal n) (λ (x : JournalEntry). IsReceiptOf x r.0)) r.2
+    (All-contains (MatchesJournal journal) receipts r.0 all.matched r.1) in
     let both = both_of_some (λ (x : JournalEntry). IsReceiptOf x r.0) (λ (x : JournalEntry). Contains x.pages.items page)
-    (slice_get journal e.0) reported e.3 in
+    (slice_get journal e.0) is_marked e.3 in
     let late = e.1 in let number = r.2 in (r.0, r.1, omega arith, subst (λ (pages : List ℕ). Contains pages page) (sym both.1.pages) both.2)
 
 -- the words of the last gather, by all passes, have each page that was marked since the harvest took it
@@ -125,8 +125,8 @@ pub accounts_since : (share : Pass) (h : Harvest) (journal : List JournalEntry) 
 accounts_since share h journal after words theirs leaves whole receipts all word first marked since replays p apart below here =
     let page = page_of (lengths since.memory.host) p in
     let differs = journals_tell_pages since after (drop first (journal_of journal)) replays in
-    let reported = receipt_since page first journal receipts all (differs.bytes p apart) in
+    let is_marked = receipt_since page first journal receipts all (differs.bytes p apart) in
     leaves whole page below
-    (All-contains (ReportedSince word first h.pass.counts.pages share.counts.pages) receipts reported.0 marked reported.1 reported.2 page
+    (All-contains (MarkedSince word first h.pass.counts.pages share.counts.pages) receipts is_marked.0 marked is_marked.1 is_marked.2 page
     here
-    (omega arith) reported.3)
+    (omega arith) is_marked.3)

@@ -42,13 +42,13 @@ same_keeps pages p before after same = record { block_lengths = ap lengths same;
 -- stores change the pages of their places alone
 stores_keep : (m : Memory) (ws : List (ℕ × ℕ)) (pages : List ℕ) (p : Place) → WritesPages m (map (λ w. w.0) ws) pages →
     KeepsOr pages p m.host (stored_all m ws).host
-stores_keep m ws pages p reported = record {
+stores_keep m ws pages p is_marked = record {
   block_lengths = stores_lengths m ws;
   byte =
       ⊎_elim
       (λ (same : byte_at (stored_all m ws).host p ≡ byte_at m.host p). inl same)
       (λ (there : Contains (map (page_of (lengths m.host)) (places_stored m ws)) (page_of (lengths m.host) p)).
-      inr ((reported.all (page_of (lengths m.host) p)).1 there))
+      inr ((is_marked.all (page_of (lengths m.host) p)).1 there))
       (stores_or (lengths m.host) p m ws);
 }
 
@@ -58,13 +58,13 @@ write_keeps : {F : Type 0} (s after : State F) (a : ℕ) (bytes pages : List ℕ
     (run.Done, after) ≡ (if◌then◌else◌ {A = Effect F} reached (run.Done, record s { memory = guest_written s.memory a bytes })
     (no why.NoPlace s)) → WritesPages (physical s.memory) (addresses a (length bytes)) pages →
     KeepsOr pages p s.memory.host after.memory.host
-write_keeps {F} s after a bytes pages p false does reported =
+write_keeps {F} s after a bytes pages p false does is_marked =
     same_keeps pages p s.memory.host after.memory.host (ap (λ (e : Effect F). e.1.memory.host) does)
-write_keeps {F} s after a bytes pages p true does reported =
+write_keeps {F} s after a bytes pages p true does is_marked =
     let ws = zip (addresses a (length bytes)) bytes in
     let all : map (λ (w : ℕ × ℕ). w.0) ws ≡ addresses a (length bytes) = all_firsts a (length bytes) bytes refl in
     subst (λ (h : Host). KeepsOr pages p s.memory.host h) (sym (ap (λ (e : Effect F). e.1.memory.host) does))
-    (stores_keep (physical s.memory) ws pages p (subst (λ (xs : List ℕ). WritesPages (physical s.memory) xs pages) (sym all) reported))
+    (stores_keep (physical s.memory) ws pages p (subst (λ (xs : List ℕ). WritesPages (physical s.memory) xs pages) (sym all) is_marked))
 
 -- ---- another layout
 
@@ -114,15 +114,15 @@ one_room {F} s i x o other =
 exchange_keeps : {F : Type 0} (may : May F) (s after : State F) (i : ℕ) (calls : Calls) (x : Exchange) (notice : Bool) (pages : List ℕ)
     (p : Place) → Step may s i calls (step.Exchanged x notice) after →
     ExchangesPages s i x pages → KeepsOr pages p s.memory.host after.memory.host
-exchange_keeps may s after i calls x notice pages p t reported =
+exchange_keeps may s after i calls x notice pages p t is_marked =
     let found = step_offers may s after i calls x notice t in
     let o = found.0 in
     let ws = writes o.queue x.head (room_of o.fetched) x.reply in
-    let same = one_room s i x reported.0 o in
+    let same = one_room s i x is_marked.0 o in
     subst (λ (m : Memory). KeepsOr pages p s.memory.host m.host)
     (sym (exchange_returns may s i o.queue x.head o.fetched calls x notice after found.1))
     (stores_keep s.memory ws pages p (subst (λ (ws : List (ℕ × ℕ)). WritesPages s.memory (map (λ (w : ℕ × ℕ). w.0) ws) pages) same
-    reported.1))
+    is_marked.1))
 
 kick_keeps : {F : Type 0} (may : May F) (s after : State F) (i : ℕ) (outcome : replay.Outcome) (pages : List ℕ) (p : Place) →
     ReplaysKick may s i outcome pages after → KeepsOr pages p s.memory.host after.memory.host
@@ -156,10 +156,10 @@ both_keep first rest p before mid after here later =
           (λ (recorded : byte_at after p ≡ byte_at mid p).
           ⊎_elim
           (λ (same : byte_at mid p ≡ byte_at before p). inl (recorded ∙ same))
-          (λ (reported : Contains first page). inr (Contains-append_left first rest page reported))
+          (λ (is_marked : Contains first page). inr (Contains-append_left first rest page is_marked))
           here.byte)
-          (λ (reported : Contains rest (page_of (lengths mid) p)).
-          inr (Contains-append_right first rest page (subst (Contains rest) there reported)))
+          (λ (is_marked : Contains rest (page_of (lengths mid) p)).
+          inr (Contains-append_right first rest page (subst (Contains rest) there is_marked)))
           later.byte;
     }
 
@@ -180,6 +180,6 @@ journals_tell_pages start after journal replays = record {
   bytes = λ p differs.
       ⊎_elim
       (λ (same : byte_at after.memory.host p ≡ byte_at start.memory.host p). absurd (differs same))
-      (λ (reported : Contains (joined_pages journal) (page_of (lengths start.memory.host) p)). reported)
+      (λ (is_marked : Contains (joined_pages journal) (page_of (lengths start.memory.host) p)). is_marked)
       (replays_keep p journal start after replays).byte;
 }

@@ -11,8 +11,8 @@ pub mod Written
 pub mod Differing
 pub mod Gathering
 pub mod Accounts
-pub mod MarksPreserved
-pub mod SincePreserved
+pub mod MarksKept
+pub mod SinceKept
 pub mod Splitting
 pub mod WholePasses
 pub mod RunLemmas

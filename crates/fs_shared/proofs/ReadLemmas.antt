@@ -28,12 +28,12 @@ unfolding effect
 affects s after a n answer is = either (reach (physical s.memory) Read a n) answer s after (bytes (physical s.memory) a n) is
 
 -- nothing else
-pub read_reported : {F : Type 0} (may : May F) (s after : State F) (a n : ℕ) (answer : said.Answer) →
+pub read_returned : {F : Type 0} (may : May F) (s after : State F) (a n : ℕ) (answer : said.Answer) →
     ((read : Vec ℕ Global) → answer ≡ said.TheVariants.Bytes read → ⊥) →
     ((e : Refusal) → answer ≡ said.TheVariants.Refused e → ⊥) →
     Performs may s (GuestRead a n) [] (answer_of answer) after → ⊥
-read_reported may s after a n (said.TheVariants.Bytes read) unread unrefused is = unread read refl
-read_reported may s after a n (said.TheVariants.Refused e) unread unrefused is = unrefused e refl
-read_reported may s after a n said.TheVariants.Done unread unrefused is = affects s after a n Done is
-read_reported may s after a n (said.TheVariants.Block number) unread unrefused is = affects s after a n (NewBlockIs number) is
-read_reported may s after a n _ unread unrefused is = affects s after a n _ is
+read_returned may s after a n (said.TheVariants.Bytes read) unread unrefused is = unread read refl
+read_returned may s after a n (said.TheVariants.Refused e) unread unrefused is = unrefused e refl
+read_returned may s after a n said.TheVariants.Done unread unrefused is = affects s after a n Done is
+read_returned may s after a n (said.TheVariants.Block number) unread unrefused is = affects s after a n (NewBlockIs number) is
+read_returned may s after a n _ unread unrefused is = affects s after a n _ is

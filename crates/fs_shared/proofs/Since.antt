@@ -57,8 +57,8 @@ seen_stays word taken pages old new m seen page here = let s = m.seen page in le
 pub since_by_mark :
     (word : ℕ) (taken : List Tally) (pages : List ℕ) (old new : List Tally) → MarksPages pages old new → HasSeen word taken old
     → (page : ℕ) → page / 64 ≡ word → page < length old → Contains pages page → IsMarkedSince taken new page
-since_by_mark word taken pages old new m seen page here within reported =
-    let s = m.seen page in let k = seen page here in let ahead = (m.marked page within reported).1 in omega arith
+since_by_mark word taken pages old new m seen page here within is_marked =
+    let s = m.seen page in let k = seen page here in let ahead = (m.marked page within is_marked).1 in omega arith
 
 pub since_stays : (taken : List Tally) (pages : List ℕ) (old new : List Tally) → MarksPages pages old new → (page : ℕ) →
     IsMarkedSince taken old page → IsMarkedSince taken new page

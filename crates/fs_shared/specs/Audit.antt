@@ -22,5 +22,5 @@ times number receipts = count_by (λ r. r.number == number) receipts
 
 -- each entry's number is that of exactly one receipt, and each receipt matches the entry of its number
 pub record AreAllReceipts (journal : List JournalEntry) (receipts : List Receipt) : Type 0 where
-  pub reported : All (MatchesJournal journal) receipts
+  pub matched : All (MatchesJournal journal) receipts
   pub once : (number : ℕ) → number < length journal → times number receipts ≡ 1

@@ -43,9 +43,9 @@ kicked_pages (Ok (kicked.TheVariants.Done r)) = r.pages.items
 kicked_pages _ = []
 
 -- the pages of the receipt of a guest's write or a new layout, none if it was refused
-abbrev pub reported_pages : Result Receipt Refusal → List ℕ
-reported_pages (Ok r) = r.pages.items
-reported_pages (Err e) = []
+abbrev pub pages_of_result : Result Receipt Refusal → List ℕ
+pages_of_result (Ok r) = r.pages.items
+pages_of_result (Err e) = []
 
 -- the pass has marked each page of the receipts that lies in its bitmap
 abbrev pub HasMarked : List Tally → List Receipt → Type 0

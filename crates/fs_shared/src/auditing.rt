@@ -17,7 +17,7 @@ fn reports(entry: &JournalEntry, receipt: &Receipt) -> bool
 }
 
 // Whether a receipt matches the entry of its number.
-fn is_reported(journal: &[JournalEntry], receipt: &Receipt) -> bool
+fn matches_journal(journal: &[JournalEntry], receipt: &Receipt) -> bool
     ensures { IsTrue result ↔ MatchesJournal journal.now receipt.now }
 {
     match journal.get(receipt.number) {
@@ -40,11 +40,11 @@ fn times(receipts: &[Receipt], number: usize) -> usize
 }
 
 // Whether each receipt matches the entry of its number.
-fn all_reported(journal: &[JournalEntry], receipts: &[Receipt]) -> bool
+fn all_match(journal: &[JournalEntry], receipts: &[Receipt]) -> bool
     ensures { IsTrue result ↔ All (MatchesJournal journal.now) receipts.now }
 {
     for receipt in receipts {
-        if !is_reported(journal, receipt) {
+        if !matches_journal(journal, receipt) {
             return false;
         }
     }
@@ -93,5 +93,5 @@ fn each_once(count: usize, receipts: &[Receipt]) -> bool
 pub fn audit(journal: &[JournalEntry], receipts: &[Receipt]) -> bool
     ensures { IsTrue result ↔ AreAllReceipts journal.now receipts.now }
 {
-    all_reported(journal, receipts) && each_once(journal.len(), receipts)
+    all_match(journal, receipts) && each_once(journal.len(), receipts)
 }

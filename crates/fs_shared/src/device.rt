@@ -53,7 +53,7 @@ impl<L: Ledger, F, I: Iommu + Drop> Model for SharedDevice<L, F, I> {
 }
 
 ghost use Rattle.fs_shared.specs.Marks.{AccountsFor, AccountsSince, HasPagesOf, IsHarvestOf, LeavesMarked};
-ghost use Rattle.fs_shared.specs.Marks.{first_of, kicked_pages, reported_pages};
+ghost use Rattle.fs_shared.specs.Marks.{first_of, kicked_pages, pages_of_result};
 ghost use Rattle.fs_shared.specs.declared.share_error.ShareError.TheVariants.{OutOfMemory};
 
 impl<L: Ledger, F: FileSystem, I: Iommu + Drop> SharedDevice<L, F, I> {
@@ -179,7 +179,7 @@ impl<L: Ledger, F: FileSystem, I: Iommu + Drop> SharedDevice<L, F, I> {
         ensures share { share.new ≡ record (counted share.old (did result)) {
           pass = counting share.old.pass share.new.pass.counts.pages;
         } }
-        ensures pages { MarksPages (reported_pages result) share.old.pass.counts.pages
+        ensures pages { MarksPages (pages_of_result result) share.old.pass.counts.pages
             share.new.pass.counts.pages }
         ensures own { IsShareOf self.now share.new }
         ensures command { IfOk result (λ r. command_of r.command ≡ GuestWrite addr bytes.now) }
@@ -205,7 +205,7 @@ impl<L: Ledger, F: FileSystem, I: Iommu + Drop> SharedDevice<L, F, I> {
         ensures share { share.new ≡ record (counted share.old (did result)) {
           pass = counting share.old.pass share.new.pass.counts.pages;
         } }
-        ensures pages { MarksPages (reported_pages result) share.old.pass.counts.pages
+        ensures pages { MarksPages (pages_of_result result) share.old.pass.counts.pages
             share.new.pass.counts.pages }
         ensures own { IsShareOf self.now share.new }
         ensures command { IfOk result (λ r. command_of r.command ≡ SetLayout layout) }

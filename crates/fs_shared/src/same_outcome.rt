@@ -30,7 +30,8 @@ fn is_served(outcome: &Outcome, exchange: &Exchange, notice: bool) -> bool
     ensures { IsTrue result ↔ (came_of outcome.now ≡ Served (exchange_of exchange.now) notice) }
 {
     match outcome {
-        Outcome::Served(other, reported) => same_exchange(exchange, other) && *reported == notice,
+        Outcome::Served(other, other_notice) => same_exchange(exchange, other)
+            && *other_notice == notice,
         _ => false,
     }
 }

@@ -25,7 +25,7 @@ use Rattle.fs_turns.specs.Lives.{Life, Lives, NoInterruptIsLostOverResets, NoTur
 use Rattle.fs_turns.specs.Next.{may_reset, next_at}
 use Rattle.fs_turns.specs.Worlds.{EntersBack, EntersDropping, Move, Moves, Reports, World}
 use Rattle.fs_turns.specs.Worlds.{after_move, done, may_move, seen_of}
-use Rattle.fs_turn_calls.specs.Loop.{Calls, Elsewhere, IsBegunAs, IsReported, IsWorldIn, LeadsTo, LoopEvent, LoopRun}
+use Rattle.fs_turn_calls.specs.Loop.{Calls, Elsewhere, IsBegunAs, IsMoveOf, IsWorldIn, LeadsTo, LoopEvent, LoopRun}
 use Rattle.fs_turn_calls.specs.Loop.{Meanwhile, MovesAway, NoInterruptIsLostInRuns, NoTurnIsLostInRuns, ReportsPop, ReportsRefusal}
 use Rattle.fs_turn_calls.specs.Loop.{ReportsStore, Resets, Starts, WorldStays, unserved, ways_in_run}
 use Rattle.fs_turn_calls.proofs.LoopSteps.{SamePlace, changed, elsewhere, one_queue, settled, without_call}
@@ -208,7 +208,7 @@ stores r q w store move (inr b) =
 
 -- a call and its report
 calls : {F : Type 0} (may : May F) (s s' : LiveState F) (i : ℕ) (w : World) (q : LiveQueue) (e : LiveEvent) (move : Move)
-    → Happens may s e s' → slice_get s.queues i ≡ Some q → IsReported i q w e move → may_move (ways_in_run q) w move ≡ true
+    → Happens may s e s' → slice_get s.queues i ≡ Some q → IsMoveOf i q w e move → may_move (ways_in_run q) w move ≡ true
     → Fits q → IsWorldIn q w → Goes i s' (ways_in_run q) (after_move (ways_in_run q) w move)
 calls may s s' i w q (EndsPop j loaded ds came) move h there report allowed fits world =
     pops s s' i j w q h.w loaded ds came move report.0 there h.there h.room h.ends fits world report.1
@@ -337,7 +337,7 @@ steps : {F : Type 0} (may : May F) (i : ℕ) (s s' : LiveState F) (w w' : World)
 steps may i s s' w w' (Calls e move) t h =
     let same = same_tracked i s w t h.1 h.2 in
     let allowed = subst (λ (q : LiveQueue). may_move (ways_in_run q) w move ≡ true) (sym same) h.4 in
-    let report = subst (λ (q : LiveQueue). IsReported i q w e move) (sym same) h.3 in
+    let report = subst (λ (q : LiveQueue). IsMoveOf i q w e move) (sym same) h.3 in
     subst (Tracks i s') (sym (h.5 ∙ ap (λ (q : LiveQueue). after_move (ways_in_run q) w move) (sym same)))
     (moved_on i s s' w move t allowed (calls may s s' i w t.q e move h.0 t.there report allowed t.fits t.world))
 steps may i s s' w w' (Elsewhere e) t h =

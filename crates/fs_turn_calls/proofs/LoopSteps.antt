@@ -76,7 +76,7 @@ elsewhere {F} may s s' i (GivesUpChain c) h other =
 elsewhere {F} may s s' i (ResetsQueue j q) h other =
     apart s s' i j q other (ap (λ (x : LiveState F). x.queues) h.state)
 elsewhere may s s' i (MovesDevice m queues) h other = absurd other
-elsewhere {F} may s s' i (DecodesRequest c request reported) h other = as_before s s' i (ap (λ (x : LiveState F). x.queues) h.state)
+elsewhere {F} may s s' i (DecodesRequest c request result) h other = as_before s s' i (ap (λ (x : LiveState F). x.queues) h.state)
 elsewhere {F} may s s' i (ReceivesAnswer c call answer) h other = as_before s s' i (ap (λ (x : LiveState F). x.queues) h.state)
 elsewhere {F} may s s' i (StoresNotification j store) h other = as_before s s' i (ap (λ (x : LiveState F). x.queues) h.state)
 elsewhere {F} may s s' i (FillsBuffer c stores) h other = as_before s s' i (ap (λ (x : LiveState F). x.queues) h.state)
@@ -108,36 +108,36 @@ settled w n =
     })
     n.orders.wakes n.orders.action
 
-reported : (r : Ways) (w : World) (e : TurnEvent) (fresh other : Bool) → is_without_call (Reports e fresh other) ≡ true
+result : (r : Ways) (w : World) (e : TurnEvent) (fresh other : Bool) → is_without_call (Reports e fresh other) ≡ true
     → SamePlace (after_move r w (Reports e fresh other)) w
-reported r w Popped fresh other is = cc
-reported r w (Idle polls) fresh other is = cc
-reported r w Muted fresh other is =
+result r w Popped fresh other is = cc
+result r w (Idle polls) fresh other is = cc
+result r w Muted fresh other is =
     settled (done w Muted fresh) (next_at w.turns.phase w.turns Muted (seen_of r (done w Muted fresh) other))
-reported r w (event.Resumed another) fresh other is =
+result r w (event.Resumed another) fresh other is =
     settled (done w (event.Resumed another) fresh)
     (next_at w.turns.phase w.turns (event.Resumed another) (seen_of r (done w (event.Resumed another) fresh) other))
-reported r w event.Later fresh other is =
+result r w event.Later fresh other is =
     settled (done w event.Later fresh) (next_at w.turns.phase w.turns event.Later (seen_of r (done w event.Later fresh) other))
-reported r w event.Armed fresh other is =
+result r w event.Armed fresh other is =
     settled (done w event.Armed fresh) (next_at w.turns.phase w.turns event.Armed (seen_of r (done w event.Armed fresh) other))
-reported r w event.NoMore fresh other is =
+result r w event.NoMore fresh other is =
     settled (done w event.NoMore fresh) (next_at w.turns.phase w.turns event.NoMore (seen_of r (done w event.NoMore fresh) other))
-reported r w (event.Woken none) fresh other is = settled w (next_at w.turns.phase w.turns (event.Woken none) (seen_of r w other))
-reported r w (event.Back notify none) fresh other is =
+result r w (event.Woken none) fresh other is = settled w (next_at w.turns.phase w.turns (event.Woken none) (seen_of r w other))
+result r w (event.Back notify none) fresh other is =
     settled w (next_at w.turns.phase w.turns (event.Back notify none) (seen_of r w other))
-reported r w event.NoneResumed fresh other is = settled w (next_at w.turns.phase w.turns event.NoneResumed (seen_of r w other))
-reported r w event.Full fresh other is = settled w (next_at w.turns.phase w.turns event.Full (seen_of r w other))
-reported r w event.Paused fresh other is = settled w (next_at w.turns.phase w.turns event.Paused (seen_of r w other))
-reported r w event.Refused fresh other is = settled w (next_at w.turns.phase w.turns event.Refused (seen_of r w other))
-reported r w event.NotArmed fresh other is = settled w (next_at w.turns.phase w.turns event.NotArmed (seen_of r w other))
-reported r w event.More fresh other is = settled w (next_at w.turns.phase w.turns event.More (seen_of r w other))
+result r w event.NoneResumed fresh other is = settled w (next_at w.turns.phase w.turns event.NoneResumed (seen_of r w other))
+result r w event.Full fresh other is = settled w (next_at w.turns.phase w.turns event.Full (seen_of r w other))
+result r w event.Paused fresh other is = settled w (next_at w.turns.phase w.turns event.Paused (seen_of r w other))
+result r w event.Refused fresh other is = settled w (next_at w.turns.phase w.turns event.Refused (seen_of r w other))
+result r w event.NotArmed fresh other is = settled w (next_at w.turns.phase w.turns event.NotArmed (seen_of r w other))
+result r w event.More fresh other is = settled w (next_at w.turns.phase w.turns event.More (seen_of r w other))
 
 none_less : (n pushed : ℕ) → (pushed == 0) ≡ true → n - pushed ≡ n
 none_less n pushed is = let none = eqb-true pushed 0 is in omega (arith, none)
 
 pub without_call : (r : Ways) (w : World) (move : Move) → is_without_call move ≡ true → SamePlace (after_move r w move) w
-without_call r w (Reports e fresh other) is = reported r w e fresh other is
+without_call r w (Reports e fresh other) is = result r w e fresh other is
 without_call r w (EntersBack pushed notify none) is =
     let left = record w { coming = w.coming - 1; out = w.out - pushed; undelivered = w.undelivered || notify } in
     let p = settled left (next_at w.turns.phase w.turns (event.Back notify none) (seen_of r left false)) in

@@ -37,8 +37,8 @@ queue_of w index known holder =
     }
 
 pub pop_reports : TakesByPop → PopReports
-pop_reports takes m i before after loaded new reported w fresh u16 popped is ends world =
-    takes m i before after loaded new reported (queue_of w w.index
+pop_reports takes m i before after loaded new result w fresh u16 popped is ends world =
+    takes m i before after loaded new result (queue_of w w.index
     (if fresh then w.index else w.known) Walker) u16 popped is ends world refl
 
 pub idle_reports : FindsNoneByPop → IdleReports

@@ -16,7 +16,7 @@ use Rattle.fs_chain.specs.declared.chain_handle.ChainHandle.{ChainHandle}
 use Rattle.fs_chain.specs.Events.{notification_store}
 use Rattle.fs_chain.specs.Orders.{begin_error, end_error, give_up_error}
 use Rattle.fs_chain.specs.Queues.{gave, gave_up, in_flight, live_of}
-use Rattle.fs_chain.specs.Holds.{EndsBy, IsQueue, Machine}
+use Rattle.fs_chain.specs.Holds.{EndsBy, IsRunQueue, RunState}
 use Rattle.fs_notify.specs.Takers.{ways_of, HasU16Numbers, HasPopped, IsIndex, ShowsWish, wish_at}
 use Rattle.fs_turns.specs.declared.machine.TurnPhase.TheVariants.{Mutes, Pops}
 use Rattle.fs_turns.specs.declared.machine.TurnEvent.TheVariants.{Popped, Idle, Full, Muted}
@@ -29,12 +29,12 @@ IsWorldOf q w = (w.position ≡ q.next_avail) × (w.out ≡ in_flight q)
 -- by the index that was loaded now, or last
 abbrev pub PopReports : Type 0
 PopReports =
-    (m : Machine) (i : ℕ) (before after : QueueState) (loaded : Loaded) (new : ChainHandle)
-    (reported : walked.PopOutcome) (w : World) (fresh : Bool)
+    (m : RunState) (i : ℕ) (before after : QueueState) (loaded : Loaded) (new : ChainHandle)
+    (result : walked.PopOutcome) (w : World) (fresh : Bool)
     → HasU16Numbers before
-    → HasPopped reported
-    → IsQueue m i before
-    → EndsBy m i before after loaded new reported
+    → HasPopped result
+    → IsRunQueue m i before
+    → EndsBy m i before after loaded new result
     → IsWorldOf before w
     → (index : ℕ)
     × IsIndex loaded index
@@ -44,11 +44,11 @@ PopReports =
 -- by the index in memory
 abbrev pub IdleReports : Type 0
 IdleReports =
-    (m : Machine) (i : ℕ) (before after : QueueState) (loaded : Loaded) (new : ChainHandle)
+    (m : RunState) (i : ℕ) (before after : QueueState) (loaded : Loaded) (new : ChainHandle)
     (w : World) (polls fresh : Bool)
     → HasU16Numbers before
     → w.index < 2 ^ 16
-    → IsQueue m i before
+    → IsRunQueue m i before
     → EndsBy m i before after loaded new shows.Idle
     → IsWorldOf before w
     → (index : ℕ)
@@ -97,7 +97,7 @@ abbrev pub DropReports : Type 0
 DropReports =
     (q : QueueState) (out : InFlight) (w : World)
     → HasU16Numbers q
-    → give_up_error (at.Taken out) q ≡ None
+    → give_up_error (at.Popped out) q ≡ None
     → IsWorldOf q w
     → IsTrue (nat_lt 0 w.out)
     × IsWorldOf (gave_up q) (record w { position = back w.position 1; out = w.out - 1 })

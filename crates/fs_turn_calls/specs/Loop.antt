@@ -59,15 +59,15 @@ ReportsStore q store move =
 
 -- the event is a call of a thread of queue i, and this move its report. A push's is Back, with whether the
 -- driver is to be notified (2.7.7)
-abbrev pub IsReported : (i : ℕ) → LiveQueue → World → LiveEvent → Move → Type 0
-IsReported i q w (EndsPop j loaded ds came) move = (j ≡ i) × ReportsPop w loaded came move
-IsReported i q w (RefusesPop j e) move = (j ≡ i) × ReportsRefusal move
-IsReported i q w (PushesChain c x notice last used seen) move =
+abbrev pub IsMoveOf : (i : ℕ) → LiveQueue → World → LiveEvent → Move → Type 0
+IsMoveOf i q w (EndsPop j loaded ds came) move = (j ≡ i) × ReportsPop w loaded came move
+IsMoveOf i q w (RefusesPop j e) move = (j ≡ i) × ReportsRefusal move
+IsMoveOf i q w (PushesChain c x notice last used seen) move =
     (c.queue ≡ i) × (no_answer : Bool) × (move ≡ EntersBack 1 notice no_answer)
-IsReported i q w (GivesUpChain c) move =
+IsMoveOf i q w (GivesUpChain c) move =
     (c.queue ≡ i) × (no_answer : Bool) × (move ≡ EntersDropping no_answer)
-IsReported i q w (StoresNotification j store) move = (j ≡ i) × ReportsStore q store move
-IsReported i q w _ move = ⊥
+IsMoveOf i q w (StoresNotification j store) move = (j ≡ i) × ReportsStore q store move
+IsMoveOf i q w _ move = ⊥
 
 -- an event of another queue, or one that changes no queue
 abbrev pub IsElsewhere : (i : ℕ) → LiveEvent → Type 0
@@ -124,7 +124,7 @@ abbrev pub LeadsTo : {F : Type 0} → May F → ℕ → LiveState F → World �
 LeadsTo may i s w (Calls e move) s' w' =
     Happens may s e s'
     × (q : LiveQueue) × (slice_get s.queues i ≡ Some q)
-    × IsReported i q w e move
+    × IsMoveOf i q w e move
     × IsTrue (may_move (ways_in_run q) w move)
     × (w' ≡ after_move (ways_in_run q) w move)
 LeadsTo may i s w (Elsewhere e) s' w' = Happens may s e s' × IsElsewhere i e × (w' ≡ w)

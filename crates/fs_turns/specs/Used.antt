@@ -60,8 +60,7 @@ BothOver r q b [] end = end ≡ b
 BothOver r q b (e ∷ es) end = IsTrue (may_both r q b e) × BothOver r q (after_both r q b e) es end
 
 -- the driver sleeps, and more chains are used than it may sleep through; no interrupt is on its way, and no
--- push is
--- before its check
+-- push is before its check
 pub record IsUnnotified (u : NotifyState) : Type 0 where
   pub asleep : u.phase ≡ Asleep
   pub used : u.skip < ahead u.index u.position

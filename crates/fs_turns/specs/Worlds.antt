@@ -1,10 +1,8 @@
 -- The threads of a queue that do what the machine returns, and a driver that keeps VIRTIO 1.2.
 --
 -- A move is at most one load or store that both sides see. A thread's move includes the call of `next` that
--- reports
--- it, and the release of the lock if `next` orders that: until then the thread holds the lock, and makes no
--- other
--- load or store that the driver sees.
+-- reports it, and the release of the lock if `next` orders that: until then the thread holds the lock, and
+-- makes no other load or store that the driver sees.
 use Rattle.std.specs.Prelude.{◌≡◌, ℕ, ◌+◌, ◌-◌, ◌^◌, ◌<◌, ◌≤◌, ◌==◌, Bool, true, false, not, ◌&&◌, ◌||◌, ◌⊎◌}
 use Rattle.std.specs.Prelude.{nat_lt, nat_le, List, [], ◌∷◌, IsTrue, if◌then◌else◌}
 use Rattle.notify.specs.Kicks.{ahead, back, moved, must}
@@ -42,8 +40,7 @@ pub record World : Type 0 where
   pub stored : Bool
   pub turns : Turns
   -- the numbers of threads that sleep; that woke, and wait for the lock; that report `Back` next, and wait
-  -- for the
-  -- lock; that answer a chain, do anything else, or have ended; that have yet to wake a thread
+  -- for the lock; that answer a chain, do anything else, or have ended; that have yet to wake a thread
   pub sleepers : ℕ
   pub woken : ℕ
   pub coming : ℕ
@@ -265,8 +262,7 @@ begun place waiting event muted by_event threads =
     }
 
 -- a thread sleeps, and no thread is going to look for chains: none holds the lock, waits for it, or has yet
--- to wake a
--- thread, and no event is pending
+-- to wake a thread, and no event is pending
 pub record IsForgotten (w : World) : Type 0 where
   pub nobody : w.turns.phase ≡ Free
   pub sleeps : 0 < w.sleepers

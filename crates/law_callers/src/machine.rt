@@ -19,7 +19,7 @@ ghost use Rattle.plain_machine.specs.StepBy.{HasEffects, after_stores, return_ad
 ghost use Rattle.plain_machine.specs.UsedLength.{IsOffered, ReportsLength};
 ghost use Rattle.fs_device.specs.Books.{IsBalanced};
 ghost use Rattle.fs_device.specs.Marks.{SameButMarks, SameEvents};
-ghost use Rattle.fs_device.specs.Reporting.{IsServed, calls_reported};
+ghost use Rattle.fs_device.specs.Reporting.{IsServed, calls_of_all};
 ghost use Rattle.law_callers.specs.Worked.{forget_turn, forgotten, machine, read_and_harvest, replied};
 ghost use Rattle.law_callers.specs.Worked.{unknown_effects, unknown_kick, unknown_offer, unknown_turn};
 ghost use Rattle.law_callers.specs.Worked.{unmarked_bytes, written};
@@ -47,7 +47,7 @@ pub fn report_a_forget<F: FileSystem>()
         → F.may before (Forget nobody 5 3) Done after
         → (events : List (Command × Answer)) (later : List Turns) (end : State F)
         → RunReported F.may (forgotten before after) events later end
-        → FileRun F.may before ((Forget nobody 5 3, Done) ∷ calls_reported later) end.files
+        → FileRun F.may before ((Forget nobody 5 3, Done) ∷ calls_of_all later) end.files
         × AllByRecursion (AllByRecursion IsServed) ((forget_turn ∷ []) ∷ later) }
 {
     law_calls::<F>();

@@ -45,15 +45,15 @@ module _ {A : Type 0} (P : A → Type 0) where
   all_both [] ys h g = g
   all_both (x ∷ xs) ys h g = (h.0, all_both xs ys h.1 g)
 
-  all_preserved :
+  all_kept :
       (f : A → Bool) (x : A) (xs : List A) (b : Bool) → f x ≡ b → P x → AllByRecursion P (filter f xs) →
       AllByRecursion P (filter f (x ∷ xs))
-  all_preserved f x xs true is one h = rw is (one, h)
-  all_preserved f x xs false is one h = rw is h
+  all_kept f x xs true is one h = rw is (one, h)
+  all_kept f x xs false is one h = rw is h
 
   pub all_filter : (f : A → Bool) (xs : List A) → AllByRecursion P xs → AllByRecursion P (filter f xs)
   all_filter f [] h = tt
-  all_filter f (x ∷ xs) h = all_preserved f x xs (f x) refl h.0 (all_filter f xs h.1)
+  all_filter f (x ∷ xs) h = all_kept f x xs (f x) refl h.0 (all_filter f xs h.1)
 
 -- ---- what holds of each chain that is out
 
@@ -131,7 +131,7 @@ own_walked limit c p request reply is un few h = absurd un
 pub keeps : {F : Type 0} (may : May F) (s after : LiveState F) (e : LiveEvent) → Happens may s e after → AllWalked s → AllWalked after
 keeps may s after (EndsPop i loaded ds came) h all = walk_keeps s after i h.w loaded ds came h.ends h.mapped all
 keeps {F} may s after (RefusesPop i e) h all = subst (λ (k : LiveState F). AllWalked k) (sym h.state) all
-keeps {F} may s after (DecodesRequest c request reported) h all =
+keeps {F} may s after (DecodesRequest c request decoded) h all =
     let P = Walked s.limit in
     let parts = one_walked s h.before h.behind c h.out all in
     subst (λ (k : LiveState F). AllWalked k) (sym h.state)

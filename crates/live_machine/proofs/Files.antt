@@ -43,7 +43,7 @@ module _ {F : Type 0} (may : May F) where
     no_miss = h.no_miss;
     state = ap (λ (k : LiveState (Unit {0})). over k files) h.state;
   }
-  happens s after files (DecodesRequest c request reported) isnt h = record {
+  happens s after files (DecodesRequest c request decoded) isnt h = record {
     before = h.before;
     behind = h.behind;
     out = h.out;

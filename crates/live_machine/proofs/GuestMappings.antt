@@ -90,7 +90,7 @@ keeps : {F : Type 0} (may : May F) (s after : LiveState F) (e : LiveEvent) (m : 
     → HasMappings s m → HasMappings after m
 keeps may s after (EndsPop i loaded ds came) m h stays has = popped_keeps s after i h.w loaded ds came m h.ends has
 keeps {F} may s after (RefusesPop i e) m h stays has = subst (λ (k : LiveState F). HasMappings k m) (sym h.state) has
-keeps {F} may s after (DecodesRequest c request reported) m h stays has =
+keeps {F} may s after (DecodesRequest c request decoded) m h stays has =
     let parts = one_over m s.chains h.before h.behind c h.out has.1 in
     subst (λ (k : LiveState F). HasMappings k m) (sym h.state)
     (has.0, all_both (PoppedOver m) h.before (asked_chain c request s.options [] ∷ h.behind) parts.0 (parts.1, parts.2))

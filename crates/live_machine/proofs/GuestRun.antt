@@ -11,11 +11,11 @@ use Rattle.plain_machine.specs.MarkedPages.{Marks, block_mark, io_mark, marked_b
 use Rattle.plain_machine.specs.StepBy.{after_stores, stores_among}
 use Rattle.plain_machine.proofs.PageLemmas.{ways, ways_stay, writes_mark}
 use Rattle.live_machine.specs.Guest.{DeviceEvent, MarksOfBoth, PagesOfRun, Writes, after_event, after_moments, after_writes}
-use Rattle.live_machine.specs.Guest.{reported_through, written_by_guest}
+use Rattle.live_machine.specs.Guest.{addresses_marked, written_by_guest}
 use Rattle.live_machine.specs.Live.{event_acts}
-use Rattle.live_machine.specs.Runs.{reported_by}
+use Rattle.live_machine.specs.Runs.{marks_of}
 use Rattle.live_machine.proofs.GuestMappings.{event_keeps, event_over, same_mappings}
-use Rattle.live_machine.proofs.Pages.{event_reported}
+use Rattle.live_machine.proofs.Pages.{event_marks}
 
 -- ---- marks
 
@@ -108,8 +108,8 @@ device_before m n ws guest device after same first later = record {
 }
 
 -- the guest's writes leave the mappings
-ways_preserved : (m : Memory) (ws : List (ℕ × ℕ)) → ways (after_writes m ws) ≡ ways m
-ways_preserved m ws = ap (λ (k : Memory). record m { host = k.host }) (ways_stay (physical m) ws)
+ways_kept : (m : Memory) (ws : List (ℕ × ℕ)) → ways (after_writes m ws) ≡ ways m
+ways_kept m ws = ap (λ (k : Memory). record m { host = k.host }) (ways_stay (physical m) ws)
 
 -- ---- the run
 
@@ -117,17 +117,17 @@ pub pages_of_run : {F : Type 0} (may : May F) → PagesOfRun may
 pages_of_run may s after [] m run has stay = none_by_both m
 pages_of_run may s after (Writes ws ∷ ms) m run has stay =
     let n = after_writes m ws in
-    guest_before m n (map (λ (w : ℕ × ℕ). w.0) ws) (written_by_guest ms) (reported_through may s ms after run) (after_moments n ms).host
-    (ways_preserved m ws) (writes_mark (physical m) ws)
-    (pages_of_run may s after ms n run (same_mappings s m n (ways_preserved m ws) has) stay)
+    guest_before m n (map (λ (w : ℕ × ℕ). w.0) ws) (written_by_guest ms) (addresses_marked may s ms after run) (after_moments n ms).host
+    (ways_kept m ws) (writes_mark (physical m) ws)
+    (pages_of_run may s after ms n run (same_mappings s m n (ways_kept m ws) has) stay)
 pages_of_run may s after (DeviceEvent e ∷ ms) m run has stay =
     let ws = flat_map writes_of (stores_among (event_acts e)) in
     let n : Memory = after_stores m (stores_among (event_acts e)) in
     let laid : after_event m e ≡ n = event_over may s run.0 e m run.1 stay.0 has in
     let guest = written_by_guest ms in
-    let device = reported_through may run.0 ms after run.2 in
-    let first : Marks m (reported_by s e) n.host = event_reported may s run.0 e run.1 m in
+    let device = addresses_marked may run.0 ms after run.2 in
+    let first : Marks m (marks_of s e) n.host = event_marks may s run.0 e run.1 m in
     let later : MarksOfBoth n guest device (after_moments n ms).host =
     pages_of_run may run.0 after ms n run.2 (event_keeps may s run.0 e m run.1 stay.0 has) stay.1 in
-    subst (λ (k : Memory). MarksOfBoth m guest (reported_by s e ++ device) (after_moments k ms).host) (sym laid)
-    (device_before m n (reported_by s e) guest device (after_moments n ms).host (ways_stay m ws) first later)
+    subst (λ (k : Memory). MarksOfBoth m guest (marks_of s e ++ device) (after_moments k ms).host) (sym laid)
+    (device_before m n (marks_of s e) guest device (after_moments n ms).host (ways_stay m ws) first later)

@@ -77,7 +77,7 @@ one_meant n chains before behind c d out all meant =
 pub keeps_meant : {F : Type 0} (may : May F) (s after : LiveState F) (e : LiveEvent) → Happens may s e after → AllMeant s → AllMeant after
 keeps_meant may s after (EndsPop i loaded ds came) h all = pop_keeps s after i h.w loaded ds came h.ends all
 keeps_meant {F} may s after (RefusesPop i e) h all = subst (λ (k : LiveState F). AllMeant k) (sym h.state) all
-keeps_meant {F} may s after (DecodesRequest c request reported) h all =
+keeps_meant {F} may s after (DecodesRequest c request decoded) h all =
     subst (λ (k : LiveState F). AllMeant k) (sym h.state)
     (one_meant s.page_size s.chains h.before h.behind c (asked_chain c request s.options []) h.out all refl)
 keeps_meant {F} may s after (ReceivesAnswer c call answer) h all =

@@ -9,8 +9,8 @@ use Rattle.server_meanings.specs.Serving.{May}
 use Rattle.live_machine.specs.Several.{LiveQueue, InFlightId, unrecorded}
 use Rattle.live_machine.specs.Live.{Happens, KeepsQueue, LiveEvent, LiveRun, LiveState, MovesDeviceSo, InFlightChain, Remaps, ResetsQueueSo}
 use Rattle.live_machine.specs.Runs.{HasNoneInFlight, MovedContinues, PositionsAgree, in_flight_on}
-use Rattle.live_machine.proofs.Placed.{Ahead, run_preserved, started}
-use Rattle.live_machine.proofs.Queues.{preserved_not, one_ticket, same_some}
+use Rattle.live_machine.proofs.Placed.{Ahead, run_kept, started}
+use Rattle.live_machine.proofs.Queues.{kept_not, one_ticket, same_some}
 
 -- ---- lists
 
@@ -29,7 +29,7 @@ module _ (i : ℕ) where
   one_stays c cs true is none more =
       absurd (cc (sym (one_ticket i c cs true is) ∙ none))
   one_stays c cs false is none more =
-      preserved_not (λ c. not (c.queue == i)) c cs true (ap not is)
+      kept_not (λ c. not (c.queue == i)) c cs true (ap not is)
       ∙ ap (λ (l : List InFlightChain). c ∷ l) (more (sym (one_ticket i c cs false is) ∙ none))
 
   none_filtered : (cs : List InFlightChain) → in_flight_on i cs ≡ [] → filter (λ c. not (c.queue == i)) cs ≡ cs
@@ -40,8 +40,8 @@ module _ (i : ℕ) where
       → AllByRecursion HasNoneInFlight s.queues → LiveRun may s es now
       → slice_get now.queues i ≡ Some w → in_flight_on i now.chains ≡ [] → HasNoneInFlight w
   none_out_even may s now es w none even run there out =
-      let preserved = run_preserved i may s now es run (started i s none even) in
-      subst (λ (ts : List InFlightId). Ahead now.places w (length ts)) out (preserved w there)
+      let kept = run_kept i may s now es run (started i s none even) in
+      subst (λ (ts : List InFlightId). Ahead now.places w (length ts)) out (kept w there)
 
 pub stands_even : {F : Type 0} (may : May F) → PositionsAgree may
 stands_even {F} may s now es i w none even run there out = (
@@ -85,13 +85,13 @@ joined {F} may s mid end [] later run more = subst (λ (k : LiveState F). LiveRu
 joined may s mid end (e ∷ es) later run more = (run.0, run.1, joined may run.0 mid end es later run.2 more)
 
 pub moved_carries_on : {F : Type 0} (may : May F) → MovedContinues may
-moved_carries_on {F} may s now moved es m queues none even run moves reported =
+moved_carries_on {F} may s now moved es m queues none even run moves recorded =
     let so : MovesDeviceSo now m queues moved = moves in
     let stand : AllByRecursion HasNoneInFlight now.queues =
     all_even now.queues
     (λ i w there. none_out_even i may s now es w none even run there
     (ap (λ (cs : List InFlightChain). in_flight_on i cs) so.none_in_flight)) in
-    let same : queues ≡ now.queues = same_queues queues now.queues so.positions_agree stand so.same reported in
+    let same : queues ≡ now.queues = same_queues queues now.queues so.positions_agree stand so.same recorded in
     let state : moved ≡ record now { places = m } = so.state ∙ ap (λ (l : List LiveQueue). record now { places = m; queues = l }) same in
     let maps : Happens may now (Remaps m) moved =
     record {

@@ -74,7 +74,7 @@ pub returns : {F : Type 0} {s after : LiveState F} {c : InFlightChain} {x : Exch
     (before : List InFlightChain) (w : LiveQueue) → s.chains ≡ before ++ c ∷ [] → slice_get s.queues c.queue ≡ Some w
     → PushedWith s.page_size c c.phase x → used ≡ stores_after_reply (returning w) c.head (length x.reply) → true ≡ wants w (le16 0)
     → after ≡ after_push s before [] c w → PushesChainSo s c x true 0 used (le16 0) after
-returns before w out there proceeds used_is reported state = record {
+returns before w out there proceeds used_is notice_is state = record {
   before = before;
   behind = [];
   out = out;
@@ -83,7 +83,7 @@ returns before w out there proceeds used_is reported state = record {
   proceeds = proceeds;
   used_is = used_is;
   two = refl;
-  reported = reported;
+  reported = notice_is;
   state = state;
 }
 

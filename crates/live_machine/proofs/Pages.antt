@@ -21,7 +21,7 @@ use Rattle.plain_machine.proofs.StepByLemmas.{reply_writes}
 use Rattle.live_machine.specs.Several.{LiveQueue, returning, wish_at}
 use Rattle.live_machine.specs.Live.{FillsBuffer, Happens, LiveEvent, LiveState, InFlightChain, PushesChain, PushesChainSo}
 use Rattle.live_machine.specs.Live.{StoresNotification, StoresNotificationSo, event_acts, room_of}
-use Rattle.live_machine.specs.Runs.{LogsAsReported, MarksAsReported, PagesAreReported, ReturnsReport, page_of, reported_by, queue_addresses}
+use Rattle.live_machine.specs.Runs.{LogsItsPages, MarksItsPages, PagesAreMarked, ReturnsReport, page_of, marks_of, queue_addresses}
 use Rattle.live_machine.specs.Runs.{written_by}
 use Rattle.live_machine.proofs.Stored.{among_return, among_stores}
 use Rattle.live_machine.proofs.Wishes.{wish_stored}
@@ -97,9 +97,9 @@ module _ (q : Queue) (head : ℕ) (room reply : List ℕ) where
 -- ---- an event
 
 -- both by one list of addresses that sets the same marks
-both_reported : {F : Type 0} (s : LiveState F) (e : LiveEvent) →
-    ((p : ℕ → Bool) → list_any p (written_by (event_acts e)) ≡ list_any p (reported_by s e)) → MarksAsReported s e × LogsAsReported s e
-both_reported s e same = (
+both_mark : {F : Type 0} (s : LiveState F) (e : LiveEvent) →
+    ((p : ℕ → Bool) → list_any p (written_by (event_acts e)) ≡ list_any p (marks_of s e)) → MarksItsPages s e × LogsItsPages s e
+both_mark s e same = (
   λ m.
       let ws = flat_map writes_of (stores_among (event_acts e)) in
       let marks = writes_mark m ws in record {
@@ -113,52 +113,52 @@ both_reported s e same = (
   λ page. same (λ a. page_of a == page),
 )
 
-returns_reported : {F : Type 0} (s mid : LiveState F) (c : InFlightChain) (x : Exchange) (notice : Bool) (last : ℕ) (used : List Store)
+returns_mark : {F : Type 0} (s mid : LiveState F) (c : InFlightChain) (x : Exchange) (notice : Bool) (last : ℕ) (used : List Store)
     (seen : List ℕ) → (h : PushesChainSo s c x notice last used seen mid)
-    → reported_by s (PushesChain c x notice last used seen) ≡ returned_addresses (returning h.w) c.head (room_of c) x.reply
-returns_reported s mid c x notice last used seen h =
+    → marks_of s (PushesChain c x notice last used seen) ≡ returned_addresses (returning h.w) c.head (room_of c) x.reply
+returns_mark s mid c x notice last used seen h =
     ap (λ (k : Option LiveQueue). take (length x.reply) (room_of c) ++ queue_addresses k) h.there
     ∙ sym (returned_are (returning h.w) c.head (room_of c) x.reply)
 
 -- a store of two bytes
-two_reported : (a v : ℕ) → firsts (flat_map writes_of (record { address = a; bytes = to_le_bytes w16 v } ∷ [])) ≡ addresses a 2
-two_reported a v = ap firsts (append-nil (zip (addresses a 2) (to_le_bytes w16 v))) ∙ whole_firsts a 2 (to_le_bytes w16 v) refl
+two_marked : (a v : ℕ) → firsts (flat_map writes_of (record { address = a; bytes = to_le_bytes w16 v } ∷ [])) ≡ addresses a 2
+two_marked a v = ap firsts (append-nil (zip (addresses a 2) (to_le_bytes w16 v))) ∙ whole_firsts a 2 (to_le_bytes w16 v) refl
 
 -- stores in a room
-fills_reported :
+fills_mark :
     (stores : List Store) → firsts (flat_map writes_of stores) ≡ flat_map (λ store. addresses store.address (length store.bytes)) stores
-fills_reported [] = refl
-fills_reported (store ∷ stores) =
+fills_mark [] = refl
+fills_mark (store ∷ stores) =
     map-append (λ (w : ℕ × ℕ). w.0) (writes_of store) (flat_map writes_of stores)
     ∙ ap (λ (l : List ℕ). l ++ firsts (flat_map writes_of stores)) (whole_firsts store.address (length store.bytes) store.bytes refl)
-    ∙ ap (λ (l : List ℕ). addresses store.address (length store.bytes) ++ l) (fills_reported stores)
+    ∙ ap (λ (l : List ℕ). addresses store.address (length store.bytes) ++ l) (fills_mark stores)
 
 pub one_event : {F : Type 0} (may : May F) (s mid : LiveState F) (e : LiveEvent) → Happens may s e mid → (p : ℕ → Bool) →
-    list_any p (written_by (event_acts e)) ≡ list_any p (reported_by s e)
+    list_any p (written_by (event_acts e)) ≡ list_any p (marks_of s e)
 one_event may s mid (PushesChain c x notice last used seen) h p =
     let so : PushesChainSo s c x notice last used seen mid = h in
     ap (λ (l : List Store). list_any p (firsts (flat_map writes_of l))) (among_return (reply_stores (room_of c) x.reply last ++ used) seen)
     ∙ any_stored (returning so.w) c.head (room_of c) x.reply p last used so.used_is
-    ∙ ap (list_any p) (sym (returns_reported s mid c x notice last used seen so))
+    ∙ ap (list_any p) (sym (returns_mark s mid c x notice last used seen so))
 one_event may s mid (StoresNotification i store) h p =
     let so : StoresNotificationSo s i store mid = h in
     let wish = wish_stored so.w so.wanted store so.stores in
     let two : firsts (flat_map writes_of (store ∷ [])) ≡ addresses store.address 2 =
     subst (λ (k : Store). firsts (flat_map writes_of (k ∷ [])) ≡ addresses k.address 2) (sym wish.1)
-    (two_reported (wish_at so.w) wish.0) in
+    (two_marked (wish_at so.w) wish.0) in
     ap (list_any p) two
 one_event may s mid (FillsBuffer c stores) h p =
-    ap (list_any p) (ap (λ (l : List Store). firsts (flat_map writes_of l)) (among_stores stores) ∙ fills_reported stores)
+    ap (list_any p) (ap (λ (l : List Store). firsts (flat_map writes_of l)) (among_stores stores) ∙ fills_mark stores)
 one_event may s mid e h p = refl
 
-pub pages_are_reported : {F : Type 0} (may : May F) → PagesAreReported may
-pages_are_reported may s after [] run = tt
-pages_are_reported may s after (e ∷ es) run =
-    (both_reported s e (one_event may s run.0 e run.1), pages_are_reported may run.0 after es run.2)
+pub pages_are_marked : {F : Type 0} (may : May F) → PagesAreMarked may
+pages_are_marked may s after [] run = tt
+pages_are_marked may s after (e ∷ es) run =
+    (both_mark s e (one_event may s run.0 e run.1), pages_are_marked may run.0 after es run.2)
 
 pub returns_tell : {F : Type 0} (may : May F) → ReturnsReport may
-returns_tell may s after c x notice last used seen h = (h.w, h.there, returns_reported s after c x notice last used seen h)
+returns_tell may s after c x notice last used seen h = (h.w, h.there, returns_mark s after c x notice last used seen h)
 
 -- over a memory
-pub event_reported : {F : Type 0} (may : May F) (s mid : LiveState F) (e : LiveEvent) → Happens may s e mid → MarksAsReported s e
-event_reported may s mid e h = (both_reported s e (one_event may s mid e h)).0
+pub event_marks : {F : Type 0} (may : May F) (s mid : LiveState F) (e : LiveEvent) → Happens may s e mid → MarksItsPages s e
+event_marks may s mid e h = (both_mark s e (one_event may s mid e h)).0

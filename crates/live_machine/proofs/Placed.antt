@@ -23,7 +23,7 @@ use Rattle.live_machine.specs.Runs.{HasNoneInFlight, HasUsedEvent, ReturnIsMappe
 use Rattle.live_machine.proofs.Alone.{Walked, all_both, all_left, all_right, walked_there}
 use Rattle.live_machine.proofs.Declined.{has_events, seen_has_a_place}
 use Rattle.live_machine.proofs.Offered.{RoomFits, fetched_fits, is_returned}
-use Rattle.live_machine.proofs.Queues.{apart_of, dropped, carries_on, preserved_not, none_some, one_ticket, same_some, there_other}
+use Rattle.live_machine.proofs.Queues.{apart_of, dropped, carries_on, kept_not, none_some, one_ticket, same_some, there_other}
 use Rattle.live_machine.proofs.Queues.{there_same, tickets-append}
 
 -- ---- the returns that are to come
@@ -81,8 +81,8 @@ ahead_dropped m w zero ahead =
 ahead_dropped m w (suc n) ahead = (ahead.0, ahead_dropped m (gave w) n ahead.1)
 
 -- by a memory that keeps a queue's returns there are as many ahead
-preserved_gave : (m m' : Memory) (w : LiveQueue) → KeepsReturns m m' w → KeepsReturns m m' (gave w)
-preserved_gave m m' w keeps = record { returns = keeps.returns; event = keeps.event }
+kept_gave : (m m' : Memory) (w : LiveQueue) → KeepsReturns m m' w → KeepsReturns m m' (gave w)
+kept_gave m m' w keeps = record { returns = keeps.returns; event = keeps.event }
 
 next_mapped : (m m' : Memory) (w : LiveQueue) → KeepsReturns m m' w → Next m w → Next m' w
 next_mapped m m' w keeps next = (keeps.returns w.next_used ∙ next.0, λ event. keeps.event ∙ next.1 event, next.2)
@@ -90,7 +90,7 @@ next_mapped m m' w keeps next = (keeps.returns w.next_used ∙ next.0, λ event.
 ahead_mapped : (m m' : Memory) (w : LiveQueue) (n : ℕ) → KeepsReturns m m' w → Ahead m w n → Ahead m' w n
 ahead_mapped m m' w zero keeps even = even
 ahead_mapped m m' w (suc n) keeps ahead =
-    (next_mapped m m' w keeps ahead.0, ahead_mapped m m' (gave w) n (preserved_gave m m' w keeps) ahead.1)
+    (next_mapped m m' w keeps ahead.0, ahead_mapped m m' (gave w) n (kept_gave m m' w keeps) ahead.1)
 
 -- ---- states
 
@@ -103,10 +103,10 @@ one_left : (i j : ℕ) (c : InFlightChain) (cs : List InFlightChain) (b : Bool) 
     in_flight_on i (filter (λ c. not (c.queue == j)) cs) ≡ [] →
     in_flight_on i (filter (λ c. not (c.queue == j)) (c ∷ cs)) ≡ []
 one_left i j c cs true is mine rest =
-    ap (λ (l : List InFlightChain). in_flight_on i l) (preserved_not (λ c. not (c.queue == j)) c cs false (ap not is)) ∙ rest
+    ap (λ (l : List InFlightChain). in_flight_on i l) (kept_not (λ c. not (c.queue == j)) c cs false (ap not is)) ∙ rest
 one_left i j c cs false is mine rest =
     let apart : (c.queue == i) ≡ false = ap (λ (n : ℕ). c.queue == n) (sym (eqb-true j i mine)) ∙ is in
-    ap (λ (l : List InFlightChain). in_flight_on i l) (preserved_not (λ c. not (c.queue == j)) c cs true (ap not is))
+    ap (λ (l : List InFlightChain). in_flight_on i l) (kept_not (λ c. not (c.queue == j)) c cs true (ap not is))
     ∙ one_ticket i c (filter (λ c. not (c.queue == j)) cs) false apart ∙ rest
 
 sum_suc : (a b : ℕ) → a + suc b ≡ suc (a + b)
@@ -157,68 +157,68 @@ module _ (i : ℕ) where
 
 module _ (i : ℕ) where
   -- the chains of queue i that are out have places ahead
-  abbrev pub Preserved : {F : Type 0} → LiveState F → Type 0
-  Preserved s = (w : LiveQueue) → slice_get s.queues i ≡ Some w → Ahead s.places w (out_on i s.chains)
+  abbrev pub Kept : {F : Type 0} → LiveState F → Type 0
+  Kept s = (w : LiveQueue) → slice_get s.queues i ≡ Some w → Ahead s.places w (out_on i s.chains)
 
   -- a queue is another one from now on
   changes : {F : Type 0} (s mid : LiveState F) (j : ℕ) (v v' : LiveQueue) (b : Bool) → (j == i) ≡ b → mid.places ≡ s.places
       → mid.queues ≡ changed_at s.queues j (λ _. v')
       → slice_get s.queues j ≡ Some v → ((j == i) ≡ true → Ahead s.places v (out_on i s.chains) → Ahead s.places v' (out_on i mid.chains))
       → ((j == i) ≡ false → out_on i mid.chains ≡ out_on i s.chains)
-      → Preserved s → Preserved mid
-  changes s mid j v v' true is places queues at mine others preserved =
+      → Kept s → Kept mid
+  changes s mid j v v' true is places queues at mine others kept =
       let same : j ≡ i = eqb-true j i is in
       let here : slice_get s.queues i ≡ Some v = subst (λ (n : ℕ). slice_get s.queues n ≡ Some v) same at in
       let now : slice_get mid.queues i ≡ Some v' =
       ap (λ (l : List LiveQueue). slice_get l i) queues ∙ there_same s.queues j i (λ _. v') v same here in
       λ w there.
       subst (λ (k : Memory). Ahead k w (out_on i mid.chains)) (sym places)
-      (subst (λ (k : LiveQueue). Ahead s.places k (out_on i mid.chains)) (same_some v' w (sym now ∙ there)) (mine is (preserved v here)))
-  changes s mid j v v' false is places queues at mine others preserved =
+      (subst (λ (k : LiveQueue). Ahead s.places k (out_on i mid.chains)) (same_some v' w (sym now ∙ there)) (mine is (kept v here)))
+  changes s mid j v v' false is places queues at mine others kept =
       let now : slice_get mid.queues i ≡ slice_get s.queues i =
       ap (λ (l : List LiveQueue). slice_get l i) queues ∙ there_other s.queues j i (λ _. v') (apart_of j i is) in
       λ w there. subst (λ (k : Memory). Ahead k w (out_on i mid.chains)) (sym places)
-      (subst (λ (n : ℕ). Ahead s.places w n) (sym (others is)) (preserved w (sym now ∙ there)))
+      (subst (λ (n : ℕ). Ahead s.places w n) (sym (others is)) (kept w (sym now ∙ there)))
 
   -- the queues and how many are out stay
   stays : {F : Type 0} (s mid : LiveState F) → mid.places ≡ s.places → mid.queues ≡ s.queues →
       in_flight_on i mid.chains ≡ in_flight_on i s.chains
-      → Preserved s → Preserved mid
-  stays s mid places queues chains preserved =
+      → Kept s → Kept mid
+  stays s mid places queues chains kept =
       λ w there.
       subst (λ (k : Memory). Ahead k w (out_on i mid.chains)) (sym places)
       (subst (λ (n : ℕ). Ahead s.places w n) (sym (ap (λ (l : List InFlightId). length l) chains))
-      (preserved w (sym (ap (λ (l : List LiveQueue). slice_get l i) queues) ∙ there)))
+      (kept w (sym (ap (λ (l : List LiveQueue). slice_get l i) queues) ∙ there)))
 
-  refuses : {F : Type 0} (s : LiveState F) (j : ℕ) (v : LiveQueue) (stops : Bool) → slice_get s.queues j ≡ Some v → Preserved s
-      → Preserved (record s { queues = changed_at s.queues j (λ _. record v { queue = if stops then with_stop v.queue else v.queue }) })
-  refuses {F} s j v stops at preserved =
+  refuses : {F : Type 0} (s : LiveState F) (j : ℕ) (v : LiveQueue) (stops : Bool) → slice_get s.queues j ≡ Some v → Kept s
+      → Kept (record s { queues = changed_at s.queues j (λ _. record v { queue = if stops then with_stop v.queue else v.queue }) })
+  refuses {F} s j v stops at kept =
       let v' : LiveQueue = record v { queue = if stops then with_stop v.queue else v.queue } in
       changes s (record s { queues = changed_at s.queues j (λ _. v') }) j v v' (j == i) refl refl refl at
-      (λ is ahead. ahead_refused s.places v (out_on i s.chains) stops ahead) (λ is. refl) preserved
+      (λ is ahead. ahead_refused s.places v (out_on i s.chains) stops ahead) (λ is. refl) kept
 
   takes : {F : Type 0} (s : LiveState F) (j : ℕ) (v : LiveQueue) (c : InFlightChain) → c.queue ≡ j → slice_get s.queues j ≡ Some v
-      → return_fault s.places v.queue ≡ None → HasUsedEvent s.places v → Preserved s
-      → Preserved (record s { queues = changed_at s.queues j (λ _. took v); chains = s.chains ++ c ∷ [] })
-  takes {F} s j v c of_queue at proceeds event preserved =
+      → return_fault s.places v.queue ≡ None → HasUsedEvent s.places v → Kept s
+      → Kept (record s { queues = changed_at s.queues j (λ _. took v); chains = s.chains ++ c ∷ [] })
+  takes {F} s j v c of_queue at proceeds event kept =
       changes s (record s { queues = changed_at s.queues j (λ _. took v); chains = s.chains ++ c ∷ [] }) j v (took v)
       (j == i) refl refl refl at
       (λ is ahead. subst (λ (n : ℕ). Ahead s.places (took v) n) (sym (one_more i s.chains c (ap (λ (n : ℕ). n == i) of_queue ∙ is)))
       (ahead_took s.places v (out_on i s.chains) proceeds event ahead))
-      (λ is. none_more i s.chains c (ap (λ (n : ℕ). n == i) of_queue ∙ is)) preserved
+      (λ is. none_more i s.chains c (ap (λ (n : ℕ). n == i) of_queue ∙ is)) kept
 
   walks : {F : Type 0} (s mid : LiveState F) (j : ℕ) (v : LiveQueue) (loaded : Loaded) (ds : List Descriptor) (came : comes.CourseStep)
       → slice_get s.queues j ≡ Some v
-      → pop_refusal s.places v ≡ None → EndsPopIn s j v loaded ds came mid → Preserved s → Preserved mid
-  walks s mid j v loaded ds (step.Load walk) at clear h preserved = absurd h
-  walks s mid j v loaded ds (step.Missing range access) at clear h preserved = absurd h
-  walks {F} s mid j v loaded ds step.Idle at clear h preserved = subst (λ (k : LiveState F). Preserved k) (sym h.1) preserved
-  walks {F} s mid j v loaded ds (step.Refused e) at clear h preserved = subst (λ (k : LiveState F). Preserved k) (sym h.1)
-      (refuses s j v (stops_queue e) at preserved)
-  walks {F} s mid j v loaded ds (step.Chain head fault) at clear h preserved =
+      → pop_refusal s.places v ≡ None → EndsPopIn s j v loaded ds came mid → Kept s → Kept mid
+  walks s mid j v loaded ds (step.Load walk) at clear h kept = absurd h
+  walks s mid j v loaded ds (step.Missing range access) at clear h kept = absurd h
+  walks {F} s mid j v loaded ds step.Idle at clear h kept = subst (λ (k : LiveState F). Kept k) (sym h.1) kept
+  walks {F} s mid j v loaded ds (step.Refused e) at clear h kept = subst (λ (k : LiveState F). Kept k) (sym h.1)
+      (refuses s j v (stops_queue e) at kept)
+  walks {F} s mid j v loaded ds (step.Chain head fault) at clear h kept =
       let proceeds = (fetched_fits s.places s.limit v.queue loaded ds head fault h.0).0 in
-      subst (λ (k : LiveState F). Preserved k) (sym h.1)
-      (takes s j v (new_chain s j v loaded ds head fault) refl at proceeds (λ event. (has_events s.places v clear event).0) preserved)
+      subst (λ (k : LiveState F). Kept k) (sym h.1)
+      (takes s j v (new_chain s j v loaded ds head fault) refl at proceeds (λ event. (has_events s.places v clear event).0) kept)
 
   -- a queue of which a chain is out keeps its returns
   of_one : {F : Type 0} (s : LiveState F) (m' : Memory) (w : LiveQueue) (c : InFlightChain) → slice_get s.queues i ≡ Some w
@@ -243,68 +243,68 @@ module _ (i : ℕ) where
   mapped_all s m' w (c ∷ cs) there keeps ahead = mapped_by s m' w c (c.queue == i) there refl keeps.0 cs
       (λ rest. mapped_all s m' w cs there keeps.1 rest) ahead
 
-  keeps : {F : Type 0} (may : May F) (s mid : LiveState F) (e : LiveEvent) → Happens may s e mid → Preserved s → Preserved mid
-  keeps may s mid (EndsPop j loaded ds came) h preserved = walks s mid j h.w loaded ds came h.there h.proceeds h.ends preserved
-  keeps {F} may s mid (RefusesPop j e) h preserved = subst (λ (k : LiveState F). Preserved k) (sym h.state)
-      (refuses s j h.w (stops_queue e) h.there preserved)
-  keeps {F} may s mid (DecodesRequest c request reported) h preserved =
-      subst (λ (k : LiveState F). Preserved k) (sym h.state)
+  keeps : {F : Type 0} (may : May F) (s mid : LiveState F) (e : LiveEvent) → Happens may s e mid → Kept s → Kept mid
+  keeps may s mid (EndsPop j loaded ds came) h kept = walks s mid j h.w loaded ds came h.there h.proceeds h.ends kept
+  keeps {F} may s mid (RefusesPop j e) h kept = subst (λ (k : LiveState F). Kept k) (sym h.state)
+      (refuses s j h.w (stops_queue e) h.there kept)
+  keeps {F} may s mid (DecodesRequest c request decoded) h kept =
+      subst (λ (k : LiveState F). Kept k) (sym h.state)
       (stays s (after_decoding s h.before h.behind c request) refl refl
       (carries_on i h.before h.behind c (asked_chain c request s.options []) (c.queue == i) refl refl refl
-      ∙ sym (ap (λ (l : List InFlightChain). in_flight_on i l) h.out)) preserved)
-  keeps {F} may s mid (ReceivesAnswer c call answer) h preserved =
+      ∙ sym (ap (λ (l : List InFlightChain). in_flight_on i l) h.out)) kept)
+  keeps {F} may s mid (ReceivesAnswer c call answer) h kept =
       let calls = h.calls ++ (call, answer) ∷ [] in
-      subst (λ (k : LiveState F). Preserved k) (sym h.state)
+      subst (λ (k : LiveState F). Kept k) (sym h.state)
       (stays s (after_answer s h.before h.behind c h.request h.options calls h.files) refl refl
       (carries_on i h.before h.behind c (asked_chain c h.request h.options calls) (c.queue == i) refl refl refl
-      ∙ sym (ap (λ (l : List InFlightChain). in_flight_on i l) h.out)) preserved)
-  keeps {F} may s mid (PushesChain c x notice last used seen) h preserved =
+      ∙ sym (ap (λ (l : List InFlightChain). in_flight_on i l) h.out)) kept)
+  keeps {F} may s mid (PushesChain c x notice last used seen) h kept =
       let mid' = after_push s h.before h.behind c h.w in
       let out : out_on i s.chains ≡ out_on i (h.before ++ c ∷ h.behind) = ap (λ (cs : List InFlightChain). out_on i cs) h.out in
-      subst (λ (k : LiveState F). Preserved k) (sym h.state)
+      subst (λ (k : LiveState F). Kept k) (sym h.state)
       (changes s mid' c.queue h.w (gave h.w) (c.queue == i) refl refl refl h.there
       (λ is ahead. (subst (λ (n : ℕ). Ahead s.places h.w n) (out ∙ one_less i h.before h.behind c is) ahead).1)
-      (λ is. none_less i h.before h.behind c is ∙ sym out) preserved)
-  keeps {F} may s mid (StoresNotification j store) h preserved = subst (λ (k : LiveState F). Preserved k) (sym h.state) preserved
-  keeps {F} may s mid (ResetsQueue j v) h preserved =
-      subst (λ (k : LiveState F). Preserved k) (sym h.state)
+      (λ is. none_less i h.before h.behind c is ∙ sym out) kept)
+  keeps {F} may s mid (StoresNotification j store) h kept = subst (λ (k : LiveState F). Kept k) (sym h.state) kept
+  keeps {F} may s mid (ResetsQueue j v) h kept =
+      subst (λ (k : LiveState F). Kept k) (sym h.state)
       (changes s (after_reset s j v) j h.old v (j == i) refl refl refl h.there
       (λ is ahead. subst (λ (l : List InFlightId). Ahead s.places v (length l)) (sym (none_left i j s.chains is)) h.positions_agree)
-      (λ is. ap (λ (l : List InFlightId). length l) (dropped i j s.chains (apart_of j i is))) preserved)
-  keeps {F} may s mid (FillsBuffer c stores) h preserved = subst (λ (k : LiveState F). Preserved k) (sym h.state) preserved
-  keeps {F} may s mid (GivesUpChain c) h preserved =
+      (λ is. ap (λ (l : List InFlightId). length l) (dropped i j s.chains (apart_of j i is))) kept)
+  keeps {F} may s mid (FillsBuffer c stores) h kept = subst (λ (k : LiveState F). Kept k) (sym h.state) kept
+  keeps {F} may s mid (GivesUpChain c) h kept =
       let out : out_on i s.chains ≡ out_on i (h.before ++ c ∷ h.behind) = ap (λ (cs : List InFlightChain). out_on i cs) h.out in
-      subst (λ (k : LiveState F). Preserved k) (sym h.state)
+      subst (λ (k : LiveState F). Kept k) (sym h.state)
       (changes s (after_giving_up s h.before h.behind c h.w) c.queue h.w (gave_up h.w) (c.queue == i) refl refl refl h.there
       (λ is ahead. ahead_dropped s.places h.w (out_on i (h.before ++ h.behind))
       (subst (λ (n : ℕ). Ahead s.places h.w n) (out ∙ one_less i h.before h.behind c is) ahead))
-      (λ is. none_less i h.before h.behind c is ∙ sym out) preserved)
-  keeps {F} may s mid (Abandons c) h preserved =
-      subst (λ (k : LiveState F). Preserved k) (sym h.state)
+      (λ is. none_less i h.before h.behind c is ∙ sym out) kept)
+  keeps {F} may s mid (Abandons c) h kept =
+      subst (λ (k : LiveState F). Kept k) (sym h.state)
       (stays s (after_abandoning s h.before h.behind c) refl refl
       (carries_on i h.before h.behind c (abandoned_chain c) (c.queue == i) refl refl refl ∙ sym
       (ap (λ (l : List InFlightChain). in_flight_on i l) h.out))
-      preserved)
-  keeps {F} may s mid (RepliesOwnBytes c request reply options) h preserved =
-      subst (λ (k : LiveState F). Preserved k) (sym h.state)
+      kept)
+  keeps {F} may s mid (RepliesOwnBytes c request reply options) h kept =
+      subst (λ (k : LiveState F). Kept k) (sym h.state)
       (stays s (after_own s h.before h.behind c request reply options) refl refl
       (carries_on i h.before h.behind c (record c { phase = Own request reply }) (c.queue == i) refl refl refl
-      ∙ sym (ap (λ (l : List InFlightChain). in_flight_on i l) h.out)) preserved)
-  keeps {F} may s mid (Remaps m') h preserved =
-      subst (λ (k : LiveState F). Preserved k) (sym h.state) (λ w there. mapped_all s m' w s.chains there h.keeps (preserved w there))
-  keeps {F} may s mid (MovesDevice m' queues) h preserved =
-      subst (λ (k : LiveState F). Preserved k) (sym h.state)
+      ∙ sym (ap (λ (l : List InFlightChain). in_flight_on i l) h.out)) kept)
+  keeps {F} may s mid (Remaps m') h kept =
+      subst (λ (k : LiveState F). Kept k) (sym h.state) (λ w there. mapped_all s m' w s.chains there h.keeps (kept w there))
+  keeps {F} may s mid (MovesDevice m' queues) h kept =
+      subst (λ (k : LiveState F). Kept k) (sym h.state)
       (λ w there. subst (λ (cs : List InFlightChain). Ahead m' w (out_on i cs)) (sym h.none_in_flight)
       (even_at queues i w h.positions_agree there))
-  keeps {F} may s mid _ h preserved = subst (λ (k : LiveState F). Preserved k) (sym h.state) preserved
+  keeps {F} may s mid _ h kept = subst (λ (k : LiveState F). Kept k) (sym h.state) kept
 
-  pub run_preserved : {F : Type 0} (may : May F) (s now : LiveState F) (es : List LiveEvent) → LiveRun may s es now → Preserved s
-      → Preserved now
-  run_preserved {F} may s now [] run preserved = subst (λ (k : LiveState F). Preserved k) (sym run) preserved
-  run_preserved may s now (e ∷ es) run preserved = run_preserved may run.0 now es run.2 (keeps may s run.0 e run.1 preserved)
+  pub run_kept : {F : Type 0} (may : May F) (s now : LiveState F) (es : List LiveEvent) → LiveRun may s es now → Kept s
+      → Kept now
+  run_kept {F} may s now [] run kept = subst (λ (k : LiveState F). Kept k) (sym run) kept
+  run_kept may s now (e ∷ es) run kept = run_kept may run.0 now es run.2 (keeps may s run.0 e run.1 kept)
 
   -- from no chain out on
-  pub started : {F : Type 0} (s : LiveState F) → s.chains ≡ [] → AllByRecursion HasNoneInFlight s.queues → Preserved s
+  pub started : {F : Type 0} (s : LiveState F) → s.chains ≡ [] → AllByRecursion HasNoneInFlight s.queues → Kept s
   started s none even = λ w there. subst (λ (cs : List InFlightChain). Ahead s.places w (out_on i cs)) (sym none)
       (even_at s.queues i w even there)
 
@@ -384,12 +384,12 @@ one_left_tied : (now : Memory) (ws : List LiveQueue) (j : ℕ) (v : LiveQueue) (
     → AllByRecursion (Tied now (changed_at ws j (λ _. v))) (filter (λ c. not (c.queue == j)) cs)
     → AllByRecursion (Tied now (changed_at ws j (λ _. v))) (filter (λ c. not (c.queue == j)) (c ∷ cs))
 one_left_tied now ws j v c cs true is tied rest =
-    subst (AllByRecursion (Tied now (changed_at ws j (λ _. v)))) (sym (preserved_not (λ c. not (c.queue == j)) c cs false (ap not is))) rest
+    subst (AllByRecursion (Tied now (changed_at ws j (λ _. v)))) (sym (kept_not (λ c. not (c.queue == j)) c cs false (ap not is))) rest
 one_left_tied now ws j v c cs false is tied rest =
     let other : Tied now (changed_at ws j (λ _. v)) c =
     subst (λ (k : Option LiveQueue). IfTied c.places c.taken now k)
     (sym (there_other ws j c.queue (λ _. v) (λ same. apart_of c.queue j is (sym same)))) tied in
-    subst (AllByRecursion (Tied now (changed_at ws j (λ _. v)))) (sym (preserved_not (λ c. not (c.queue == j)) c cs true (ap not is)))
+    subst (AllByRecursion (Tied now (changed_at ws j (λ _. v)))) (sym (kept_not (λ c. not (c.queue == j)) c cs true (ap not is)))
     (other, rest)
 
 left_tied : (now : Memory) (ws : List LiveQueue) (j : ℕ) (v : LiveQueue) (cs : List InFlightChain) → AllByRecursion (Tied now ws) cs
@@ -438,7 +438,7 @@ ties : {F : Type 0} (may : May F) (s mid : LiveState F) (e : LiveEvent) → Happ
 ties may s mid (EndsPop j loaded ds came) h all = walk_tied s mid j h.w loaded ds came h.there h.ends all
 ties {F} may s mid (RefusesPop j e) h all =
     subst (λ (k : LiveState F). AllTied k) (sym h.state) (refusal_tied s j h.w (stops_queue e) h.there all)
-ties {F} may s mid (DecodesRequest c request reported) h all =
+ties {F} may s mid (DecodesRequest c request decoded) h all =
     subst (λ (k : LiveState F). AllTied k) (sym h.state)
     (one_changed s.places s.queues h.before h.behind c (asked_chain c request s.options []) s.chains h.out (λ tied. tied) all)
 ties {F} may s mid (ReceivesAnswer c call answer) h all =
@@ -506,10 +506,10 @@ return_there m w next =
 pub returns_have_places : {F : Type 0} (may : May F) → ReturnsAreMapped may
 returns_have_places {F} may s now after es c x notice last used seen none even run h =
     let i = c.queue in
-    let preserved = run_preserved i may s now es run (started i s none even) in
+    let kept = run_kept i may s now es run (started i s none even) in
     let out : out_on i now.chains ≡ suc (out_on i (h.before ++ h.behind)) =
     ap (λ (cs : List InFlightChain). out_on i cs) h.out ∙ one_less i h.before h.behind c (eq-eqb c.queue c.queue refl) in
-    let ahead : Next now.places h.w = (subst (λ (n : ℕ). Ahead now.places h.w n) out (preserved h.w h.there)).0 in
+    let ahead : Next now.places h.w = (subst (λ (n : ℕ). Ahead now.places h.w n) out (kept h.w h.there)).0 in
     let start : AllTied s = subst (AllByRecursion (Tied s.places s.queues)) (sym none) tt in
     let tied : Tied now.places now.queues c =
     tied_there now.places now.queues h.before h.behind c now.chains h.out (run_ties may s now es run start) in

@@ -55,10 +55,10 @@ self n = eq-eqb n n refl
 pub apart_of : (j i : ℕ) → (j == i) ≡ false → j ≡ i → ⊥
 apart_of j i other same = not_both (i == i) (self i) (subst (λ (k : ℕ). (k == i) ≡ false) same other)
 
-pub preserved_not : (f : InFlightChain → Bool) (c : InFlightChain) (cs : List InFlightChain) (b : Bool) → f c ≡ b →
+pub kept_not : (f : InFlightChain → Bool) (c : InFlightChain) (cs : List InFlightChain) (b : Bool) → f c ≡ b →
     filter f (c ∷ cs) ≡ (if b then c ∷ filter f cs else filter f cs)
-preserved_not f c cs true is = rw is refl
-preserved_not f c cs false is = rw is refl
+kept_not f c cs true is = rw is refl
+kept_not f c cs false is = rw is refl
 
 module _ (i : ℕ) where
   abbrev ticket_of : InFlightChain → InFlightId
@@ -108,14 +108,14 @@ module _ (i : ℕ) where
       → in_flight_on i (filter (λ c. not (c.queue == j)) (c ∷ cs)) ≡ in_flight_on i (c ∷ cs)
   one_dropped j c cs true true apart is other more = absurd (apart (sym (eqb-true c.queue j other) ∙ eqb-true c.queue i is))
   one_dropped j c cs true false apart is other more =
-      ap (λ (l : List InFlightChain). in_flight_on i l) (preserved_not (λ c. not (c.queue == j)) c cs true (ap not other))
+      ap (λ (l : List InFlightChain). in_flight_on i l) (kept_not (λ c. not (c.queue == j)) c cs true (ap not other))
       ∙ one_ticket c (filter (λ c. not (c.queue == j)) cs) true is ∙ ap (λ (l : List InFlightId). ticket_of c ∷ l) more
       ∙ sym (one_ticket c cs true is)
   one_dropped j c cs false true apart is other more =
-      ap (λ (l : List InFlightChain). in_flight_on i l) (preserved_not (λ c. not (c.queue == j)) c cs false (ap not other)) ∙ more
+      ap (λ (l : List InFlightChain). in_flight_on i l) (kept_not (λ c. not (c.queue == j)) c cs false (ap not other)) ∙ more
       ∙ sym (one_ticket c cs false is)
   one_dropped j c cs false false apart is other more =
-      ap (λ (l : List InFlightChain). in_flight_on i l) (preserved_not (λ c. not (c.queue == j)) c cs true (ap not other))
+      ap (λ (l : List InFlightChain). in_flight_on i l) (kept_not (λ c. not (c.queue == j)) c cs true (ap not other))
       ∙ one_ticket c (filter (λ c. not (c.queue == j)) cs) false is ∙ more ∙ sym (one_ticket c cs false is)
 
   pub dropped : (j : ℕ) (cs : List InFlightChain) → (j ≡ i → ⊥) → in_flight_on i (filter (λ c. not (c.queue == j)) cs) ≡ in_flight_on i cs
@@ -272,7 +272,7 @@ module _ (i : ℕ) where
   carries may s mid w (EndsPop j loaded ds came) there anew h = walks s mid j w h.w loaded ds came there h.there h.room h.ends
   carries {F} may s mid w (RefusesPop j e) there anew h =
       subst (λ (k : LiveState F). Carries s k w []) (sym h.state) (refuses s j w h.w (j == i) (stops_queue e) refl there h.there)
-  carries {F} may s mid w (DecodesRequest c request reported) there anew h =
+  carries {F} may s mid w (DecodesRequest c request decoded) there anew h =
       subst (λ (k : LiveState F). Carries s k w []) (sym h.state)
       (stays s (after_decoding s h.before h.behind c request) w w there refl
       (carries_on h.before h.behind c (asked_chain c request s.options []) (c.queue == i) refl refl refl

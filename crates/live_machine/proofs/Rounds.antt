@@ -8,7 +8,7 @@ use Rattle.fs_queue.specs.Returning.{writes_of}
 use Rattle.server_meanings.specs.Serving.{May}
 use Rattle.plain_machine.specs.StepBy.{stores_among}
 use Rattle.live_machine.specs.Live.{Happens, LiveEvent, LiveState, event_acts}
-use Rattle.live_machine.specs.Runs.{page_of, reported_by}
+use Rattle.live_machine.specs.Runs.{page_of, marks_of}
 use Rattle.live_machine.specs.Rounds.{BeginsEvent, BeginsWithAllMarked, CopiesByte, EndsWithWholeCopy, GuestWrites, LosesNothing}
 use Rattle.live_machine.specs.Rounds.{MarksPages, Migration, RoundsLoseNothing, StoresByte, TakesMarks, after_beginning, after_copying}
 use Rattle.live_machine.specs.Rounds.{after_guest, after_marking, after_storing, after_taking, has_page, has_store, is_known}
@@ -78,17 +78,17 @@ module _ {X : Type 0} (f : X → Bool) where
 
 -- what is kept of the places of a page, if each of them is
 module _ (keep : ℕ → Bool) (page : ℕ) (all : (c : ℕ) → (page_of c == page) ≡ true → keep c ≡ true) where
-  preserved_one : (c : ℕ) (xs : List ℕ) (is keeps : Bool) → (page_of c == page) ≡ is → keep c ≡ keeps
+  kept_one : (c : ℕ) (xs : List ℕ) (is keeps : Bool) → (page_of c == page) ≡ is → keep c ≡ keeps
       → (has_page xs page ≡ true → has_page (filter keep xs) page ≡ true) → (is || has_page xs page) ≡ true
       → has_page (cond keeps (c ∷ filter keep xs) (filter keep xs)) page ≡ true
-  preserved_one c xs is true same keeps rest h =
+  kept_one c xs is true same keeps rest h =
       either_way is (has_page xs page) (page_of c == page) (has_page (filter keep xs) page) (λ e. same ∙ e) rest h
-  preserved_one c xs true false same keeps rest h = absurd (cc (all c same))
-  preserved_one c xs false false same keeps rest h = rest h
+  kept_one c xs true false same keeps rest h = absurd (cc (all c same))
+  kept_one c xs false false same keeps rest h = rest h
 
-  preserved : (xs : List ℕ) → has_page xs page ≡ true → has_page (filter keep xs) page ≡ true
-  preserved [] h = cc
-  preserved (c ∷ xs) h = preserved_one c xs (page_of c == page) (keep c) refl refl (preserved xs) h
+  kept : (xs : List ℕ) → has_page xs page ≡ true → has_page (filter keep xs) page ≡ true
+  kept [] h = cc
+  kept (c ∷ xs) h = kept_one c xs (page_of c == page) (keep c) refl refl (kept xs) h
 
 -- ---- each moment
 
@@ -132,7 +132,7 @@ module _ (m : Migration) (fine : LosesNothing m) where
       (not among || has_store m.to_store page) ≡ true →
       has_page m.to_mark page ≡ true → has_page (after_marking m pages).to_mark page ≡ true
   stays_owed pages page among is stays h =
-      preserved (λ (a : ℕ). not (list_any (λ (p : ℕ). p == page_of a) pages) || has_store m.to_store (page_of a)) page
+      kept (λ (a : ℕ). not (list_any (λ (p : ℕ). p == page_of a) pages) || has_store m.to_store (page_of a)) page
       (λ c same. subst (λ (k : ℕ). (not (list_any (λ (p : ℕ). p == k) pages) || has_store m.to_store k) ≡ true)
       (sym (eqb-true (page_of c) page same)) (ap (λ (b : Bool). not b || has_store m.to_store page) is ∙ stays))
       m.to_mark h
@@ -191,17 +191,17 @@ module _ (m : Migration) (fine : LosesNothing m) where
         let tc = m.to_copy a in
         let mk = m.marked (page_of a) in
         let ow = has_page m.to_mark (page_of a) in
-        let all = has_page (m.to_mark ++ map places (reported_by s e)) (page_of a) in
+        let all = has_page (m.to_mark ++ map places (marks_of s e)) (page_of a) in
         by_parts tc mk ow (tc || (mk || all)) (or_left tc (mk || all)) (in_second tc mk all)
-        (λ is. in_third tc mk all (list_any-append (λ (x : ℕ). page_of x == page_of a) m.to_mark (map places (reported_by s e))
-        ∙ or_left ow (has_page (map places (reported_by s e)) (page_of a)) is)) (fine.known a differ);
+        (λ is. in_third tc mk all (list_any-append (λ (x : ℕ). page_of x == page_of a) m.to_mark (map places (marks_of s e))
+        ∙ or_left ow (has_page (map places (marks_of s e)) (page_of a)) is)) (fine.known a differ);
     owed = λ page ahead.
         let ws = flat_map writes_of (stores_among (event_acts e)) in
         let new = map (λ (w : ℕ × ℕ). (places w.0, w.1)) ws in
-        let more = map places (reported_by s e) in
+        let more = map places (marks_of s e) in
         let same : has_store new page ≡ has_page more page =
         moved_stores places page ws ∙ one_event may s mid e happens (λ (a : ℕ). page_of (places a) == page)
-        ∙ sym (moved_pages places page (reported_by s e)) in
+        ∙ sym (moved_pages places page (marks_of s e)) in
         list_any-append (λ (x : ℕ). page_of x == page) m.to_mark more
         ∙ either_way (has_store m.to_store page) (has_store new page) (has_page m.to_mark page) (has_page more page) (fine.owed page)
         (λ e. sym same ∙ e) (sym (list_any-append (λ (x : ℕ × ℕ). page_of x.0 == page) m.to_store new) ∙ ahead);

@@ -76,9 +76,9 @@ pub record Alone {F : Type 0} (may : May F) (s : LiveState F) (queues : List Liv
 
 asks_alone : {F : Type 0} (may : May F) (s : LiveState F) (queues : List LiveQueue) (c₀ : InFlightChain) (k mid : LiveState F)
     (c : InFlightChain)
-    (request : List ℕ) (reported : List FileCall)
-    → Alone may s queues c₀ k → DecodesRequestSo k c request reported mid → Alone may s queues c₀ mid
-asks_alone {F} may s queues c₀ k mid c request reported a h =
+    (request : List ℕ) (decoded : List FileCall)
+    → Alone may s queues c₀ k → DecodesRequestSo k c request decoded mid → Alone may s queues c₀ mid
+asks_alone {F} may s queues c₀ k mid c request decoded a h =
     let one = alone (in_phase c₀ a.phase) h.before h.behind c (sym a.chains ∙ h.out) in
     let fresh : a.phase ≡ Fetched = sym (ap (λ (x : InFlightChain). x.phase) one.1) ∙ h.fresh in
     let now : k.options ≡ s.options =
@@ -152,8 +152,8 @@ pub between_alone : {F : Type 0} (may : May F) (s : LiveState F) (queues : List 
     → AllByRecursion IsOfChain es → Alone may s queues c k → LiveRun may k (es ++ back ∷ []) after
     → (now : LiveState F) × Alone may s queues c now × Happens may now back after
 between_alone {F} may s queues c k after [] back of a run = (k, a, subst (λ (x : LiveState F). Happens may k back x) (sym run.2) run.1)
-between_alone may s queues c k after (DecodesRequest d request reported ∷ es) back of a run =
-    between_alone may s queues c run.0 after es back of.1 (asks_alone may s queues c k run.0 d request reported a run.1) run.2
+between_alone may s queues c k after (DecodesRequest d request decoded ∷ es) back of a run =
+    between_alone may s queues c run.0 after es back of.1 (asks_alone may s queues c k run.0 d request decoded a run.1) run.2
 between_alone may s queues c k after (ReceivesAnswer d call answer ∷ es) back of a run =
     between_alone may s queues c run.0 after es back of.1 (answers_alone_too may s queues c k run.0 d call answer a run.1) run.2
 between_alone may s queues c k after es back of a run = absurd of.0

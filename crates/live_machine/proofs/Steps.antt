@@ -114,13 +114,13 @@ used_there w c head len order = ap (λ (q : Queue). stores_after_reply q head le
 
 -- ---- a chain over a memory
 
-by_flags_reported : (w : LiveQueue) (m : Memory) (avail : ℕ) (seen : List ℕ) (notice : Bool)
+by_flags_noticed : (w : LiveQueue) (m : Memory) (avail : ℕ) (seen : List ℕ) (notice : Bool)
     → notice ≡ wants w seen → w.queue.avail ≡ avail → LacksEventIndex w → seen ≡ bytes m (seen_at w) 2
     → notice ≡ notifies (bytes m avail 2)
-by_flags_reported w m avail seen notice reported same no_event found =
+by_flags_noticed w m avail seen notice notice_is same no_event found =
     let at : seen_at w ≡ avail = (rw no_event refl) ∙ same in
     let flags : wants w seen ≡ notifies seen = rw no_event refl in
-    reported ∙ flags ∙ ap notifies (found ∙ ap (λ (a : ℕ). bytes m a 2) at)
+    notice_is ∙ flags ∙ ap notifies (found ∙ ap (λ (a : ℕ). bytes m a 2) at)
 
 -- a chain that was walked and goes back is a step over a memory that has its loads
 over_walk : {F G : Type 0} (may : May F) (other : May G) (now after : LiveState F) (c : InFlightChain) (x : Exchange) (notice : Bool)
@@ -156,7 +156,7 @@ over_walk {F} {G} may other now after c x notice last used seen m files w walked
     let there_now = after_stores m.memory (stores_among (event_acts event)) in
     record {
       step = subst P (sym mine) by_stores;
-      by_flags = λ no_event found. by_flags_reported w there_now c.taken.avail seen notice
+      by_flags = λ no_event found. by_flags_noticed w there_now c.taken.avail seen notice
           (h.reported ∙ ap (λ (k : LiveQueue). wants k seen) same) (ap (λ (q : Queue). q.avail) order) no_event found;
     }
 

@@ -9,7 +9,7 @@ use Rattle.plain_machine.specs.StepBy.{after_stores, reply_stores}
 use Rattle.fs_queue.specs.Returning.{Store}
 use Rattle.live_machine.specs.Live.{FillsBuffer, LiveEvent, LiveRun, LiveState, MovesDevice, PushesChain}
 use Rattle.live_machine.specs.Live.{Remaps, StoresNotification, room_of}
-use Rattle.live_machine.specs.Runs.{reported_by}
+use Rattle.live_machine.specs.Runs.{marks_of}
 
 -- the guest writes these bytes, each at its physical address; or the device's next event happens. The guest's
 -- reads change nothing, and the device's events have the bytes that its loads find
@@ -70,12 +70,12 @@ written_by_guest (Writes ws ∷ ms) = map (λ w. w.0) ws ++ written_by_guest ms
 written_by_guest (DeviceEvent e ∷ ms) = written_by_guest ms
 
 -- the addresses that the events reported: the device's own, so I/O addresses behind an IOMMU's table
-abbrev pub reported_through : {F : Type 0} → (may : May F) → (s : LiveState F) → (ms : List Moment) →
+abbrev pub addresses_marked : {F : Type 0} → (may : May F) → (s : LiveState F) → (ms : List Moment) →
     (after : LiveState F) → LiveRun may s (events_of ms) after → List ℕ
-reported_through may s [] after run = []
-reported_through may s (Writes ws ∷ ms) after run = reported_through may s ms after run
-reported_through may s (DeviceEvent e ∷ ms) after run =
-    reported_by s e ++ reported_through may run.0 ms after run.2
+addresses_marked may s [] after run = []
+addresses_marked may s (Writes ws ∷ ms) after run = addresses_marked may s ms after run
+addresses_marked may s (DeviceEvent e ∷ ms) after run =
+    marks_of s e ++ addresses_marked may run.0 ms after run.2
 
 -- the guest writes at its addresses and marks pages of blocks, even if there is an IOMMU. The device writes
 -- at its own and marks pages of blocks, or pages of I/O addresses if it is behind a table. No other mark
@@ -102,4 +102,4 @@ PagesOfRun {F} may =
     (s after : LiveState F) (ms : List Moment) (m : Memory) (run : LiveRun may s (events_of ms) after) →
     HasMappings s m →
     AllByRecursion StaysThere (events_of ms) →
-    MarksOfBoth m (written_by_guest ms) (reported_through may s ms after run) (after_moments m ms).host
+    MarksOfBoth m (written_by_guest ms) (addresses_marked may s ms after run) (after_moments m ms).host

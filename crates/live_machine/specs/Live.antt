@@ -100,7 +100,7 @@ pub data LiveEvent : Type 0 where
   -- isn't mapped
   RefusesPop : (i : ℕ) → QueueError → LiveEvent
   -- the request of a chain in flight was decoded: its first call, or none
-  DecodesRequest : InFlightChain → (request : List ℕ) → (reported : List FileCall) → LiveEvent
+  DecodesRequest : InFlightChain → (request : List ℕ) → (decoded : List FileCall) → LiveEvent
   -- the pending call of the chain was answered
   ReceivesAnswer : InFlightChain → FileCall → FileAnswer → LiveEvent
   -- a chain was pushed. `last` bytes of the reply were stored last, and the stores `used` after the reply.
@@ -239,13 +239,13 @@ after_decoding s before behind c request =
 
 -- a chain in flight is decoded, with the options of this moment
 pub record DecodesRequestSo {F : Type 0} (s : LiveState F) (c : InFlightChain) (request : List ℕ)
-    (reported : List FileCall) (after : LiveState F) : Type 0 where
+    (decoded : List FileCall) (after : LiveState F) : Type 0 where
   pub before : List InFlightChain
   pub behind : List InFlightChain
   pub out : s.chains ≡ before ++ c ∷ behind
   pub fresh : c.phase ≡ Fetched
   pub whole : length request ≡ total_len (readable c.descriptors)
-  pub reports : reported ≡ (serving s.page_size s.options s.options request (room_of c) []).calls
+  pub reports : decoded ≡ (serving s.page_size s.options s.options request (room_of c) []).calls
   pub state : after ≡ after_decoding s before behind c request
 
 -- the state after the answers of these calls, the last of which was answered now
@@ -308,7 +308,7 @@ pub record PushesChainSo {F : Type 0} (s : LiveState F) (c : InFlightChain) (x :
   pub proceeds : PushedWith s.page_size c c.phase x
   pub used_is : used ≡ stores_after_reply (returning w) c.head (length x.reply)
   pub two : length seen ≡ 2
-  pub reported : notice ≡ wants w seen
+  pub decoded : notice ≡ wants w seen
   pub state : after ≡ after_push s before behind c w
 
 -- two writable bytes are mapped at this address
@@ -477,7 +477,7 @@ pub record MovesDeviceSo {F : Type 0} (s : LiveState F) (m : Memory) (queues : L
 abbrev pub Happens : {F : Type 0} → May F → LiveState F → LiveEvent → LiveState F → Type 0
 Happens may s (EndsPop i loaded ds came) after = EndsPopSo s i loaded ds came after
 Happens may s (RefusesPop i e) after = RefusesPopSo s i e after
-Happens may s (DecodesRequest c request reported) after = DecodesRequestSo s c request reported after
+Happens may s (DecodesRequest c request decoded) after = DecodesRequestSo s c request decoded after
 Happens may s (ReceivesAnswer c call answer) after = ReceivesAnswerSo may s c call answer after
 Happens may s (PushesChain c x notice last used seen) after = PushesChainSo s c x notice last used seen after
 Happens may s (StoresNotification i store) after = StoresNotificationSo s i store after

@@ -21,8 +21,8 @@ abbrev pub forget : List ℕ
 forget = in_header_bytes 48 2 2 5 ++ le64 3
 
 -- FORGET's call
-abbrev pub reported : FileCall
-reported = Forget nobody 5 3
+abbrev pub forgets : FileCall
+forgets = Forget nobody 5 3
 
 -- a queue of one descriptor: each chain is in the ring's one entry
 abbrev pub queue : Queue
@@ -72,7 +72,7 @@ first_asked = record first { phase = Asked forget 0 [] }
 
 -- FORGET was answered
 abbrev pub first_answered : InFlightChain
-first_answered = record first { phase = Asked forget 0 ((reported, Done) ∷ []) }
+first_answered = record first { phase = Asked forget 0 ((forgets, Done) ∷ []) }
 
 -- the chain is returned without a reply
 abbrev pub exchange : Exchange
@@ -85,12 +85,12 @@ used = used_of 0 0 0
 -- the rewritten entry stops the queue; the chain in flight is served as it was loaded, and is returned
 abbrev pub Rewritten : {F : Type 0} → May F → Type 0
 Rewritten {F} may =
-    (before after : F) → may before reported Done after → LiveRun may (state before (at_positions 0 0) 0 [])
+    (before after : F) → may before forgets Done after → LiveRun may (state before (at_positions 0 0) 0 [])
     (
     EndsPop 0 first_loads table (step.Chain 0 None)
     ∷ EndsPop 0 second_loads [] (step.Refused HeadOutOfTable)
-    ∷ DecodesRequest first forget (reported ∷ [])
-    ∷ ReceivesAnswer first_asked reported Done
+    ∷ DecodesRequest first forget (forgets ∷ [])
+    ∷ ReceivesAnswer first_asked forgets Done
     ∷ PushesChain first_answered exchange true 0 used (le16 0) ∷ []
     )
     (state after (stopped_at 1 1) 0 [])

@@ -7,7 +7,7 @@ use Rattle.fs_queue.specs.Returning.{writes_of}
 use Rattle.server_meanings.specs.Serving.{May}
 use Rattle.plain_machine.specs.StepBy.{stores_among}
 use Rattle.live_machine.specs.Live.{LiveEvent, LiveRun, LiveState, event_acts}
-use Rattle.live_machine.specs.Runs.{page_of, reported_by}
+use Rattle.live_machine.specs.Runs.{page_of, marks_of}
 
 -- the bytes of the memory, by their places in it, and those of its copy at the other host; the pages that are
 -- marked; the places that a round has still to copy. Of the device's events so far: the bytes that are still
@@ -70,7 +70,7 @@ after_guest m place value = record m {
 abbrev pub after_beginning : {F : Type 0} → Migration → LiveState F → LiveEvent → (ℕ → ℕ) → Migration
 after_beginning m s e places = record m {
   to_store = m.to_store ++ map (λ w. (places w.0, w.1)) (flat_map writes_of (stores_among (event_acts e)));
-  to_mark = m.to_mark ++ map places (reported_by s e);
+  to_mark = m.to_mark ++ map places (marks_of s e);
 }
 
 -- after a store, if there was one to make

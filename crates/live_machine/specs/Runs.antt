@@ -332,39 +332,39 @@ written_by acts = map (λ w. w.0) (flat_map writes_of (stores_among acts))
 -- - of a return, the reply's addresses from the reply buffer's first on, the used element, and the used index
 -- - of a sleep, the two bytes of its store
 -- - of other stores in a reply buffer, just those
-abbrev pub reported_by : {F : Type 0} → LiveState F → LiveEvent → List ℕ
-reported_by s (PushesChain c x notice last used seen) =
+abbrev pub marks_of : {F : Type 0} → LiveState F → LiveEvent → List ℕ
+marks_of s (PushesChain c x notice last used seen) =
     take (length x.reply) (room_of c) ++ queue_addresses (slice_get s.queues c.queue)
-reported_by s (StoresNotification i store) = addresses store.address 2
-reported_by s (FillsBuffer c stores) = flat_map (λ store. addresses store.address (length store.bytes)) stores
-reported_by s _ = []
+marks_of s (StoresNotification i store) = addresses store.address 2
+marks_of s (FillsBuffer c stores) = flat_map (λ store. addresses store.address (length store.bytes)) stores
+marks_of s _ = []
 
 -- over each memory, an event's stores mark the pages of the addresses that it reports, of blocks or of I/O
 -- pages, and no others. So do those of the plain machine's step, which stores the same
-abbrev pub MarksAsReported : {F : Type 0} → LiveState F → LiveEvent → Type 0
-MarksAsReported s e =
+abbrev pub MarksItsPages : {F : Type 0} → LiveState F → LiveEvent → Type 0
+MarksItsPages s e =
     (m : Memory) →
-    Marks m (reported_by s e) (after_stores m (stores_among (event_acts e))).host
+    Marks m (marks_of s e) (after_stores m (stores_among (event_acts e))).host
 
--- and if the reported addresses are marked, a log by the guest's pages has just those that the stores write
+-- and if these addresses are marked, a log by the guest's pages has just those that the stores write
 -- to
-abbrev pub LogsAsReported : {F : Type 0} → LiveState F → LiveEvent → Type 0
-LogsAsReported s e =
+abbrev pub LogsItsPages : {F : Type 0} → LiveState F → LiveEvent → Type 0
+LogsItsPages s e =
     (page : ℕ) → list_any (λ a. page_of a == page) (written_by (event_acts e))
-    ≡ list_any (λ a. page_of a == page) (reported_by s e)
+    ≡ list_any (λ a. page_of a == page) (marks_of s e)
 
 -- so it is for each event of a run
-abbrev pub EachIsReported : {F : Type 0} → (may : May F) → (s : LiveState F) → (es : List LiveEvent) →
+abbrev pub EachMarks : {F : Type 0} → (may : May F) → (s : LiveState F) → (es : List LiveEvent) →
     (after : LiveState F) → LiveRun may s es after → Type 0
-EachIsReported may s [] after run = Unit {0}
-EachIsReported may s (e ∷ es) after run =
-    (MarksAsReported s e × LogsAsReported s e)
-    × EachIsReported may run.0 es after run.2
+EachMarks may s [] after run = Unit {0}
+EachMarks may s (e ∷ es) after run =
+    (MarksItsPages s e × LogsItsPages s e)
+    × EachMarks may run.0 es after run.2
 
-abbrev pub PagesAreReported : {F : Type 0} → May F → Type 0
-PagesAreReported {F} may =
+abbrev pub PagesAreMarked : {F : Type 0} → May F → Type 0
+PagesAreMarked {F} may =
     (s after : LiveState F) (es : List LiveEvent) (run : LiveRun may s es after) →
-    EachIsReported may s es after run
+    EachMarks may s es after run
 
 -- a return reports the addresses that the plain machine's step writes at the queue's next used position
 abbrev pub ReturnsReport : {F : Type 0} → May F → Type 0
@@ -374,7 +374,7 @@ ReturnsReport {F} may =
     Happens may s (PushesChain c x notice last used seen) after →
     (w : LiveQueue)
     × (slice_get s.queues c.queue ≡ Some w)
-    × (reported_by s (PushesChain c x notice last used seen)
+    × (marks_of s (PushesChain c x notice last used seen)
     ≡ returned_addresses (returning w) c.head (room_of c) x.reply)
 
 -- ---- stops, and moves

@@ -42,7 +42,7 @@ events_in r =
 
 -- between them the chain is decoded and answered, and nothing else happens
 abbrev pub IsOfChain : LiveEvent → Type 0
-IsOfChain (DecodesRequest c request reported) = Unit {0}
+IsOfChain (DecodesRequest c request decoded) = Unit {0}
 IsOfChain (ReceivesAnswer c call answer) = Unit {0}
 IsOfChain _ = ⊥
 

@@ -9,7 +9,7 @@ ghost use Rattle.live_machine.specs.Overlap.{Overlap};
 ghost use Rattle.live_machine.specs.Rewritten.{Rewritten};
 ghost use Rattle.live_machine.specs.Rounds.{BeginsWithAllMarked, EndsWithWholeCopy, RoundsLoseNothing};
 ghost use Rattle.live_machine.specs.Runs.{CallsAreARun, EachCallIsMeant, LiveUsedInOrder, MovedContinues};
-ghost use Rattle.live_machine.specs.Runs.{OncePerLiveChain, OwnIsReturned, PagesAreReported};
+ghost use Rattle.live_machine.specs.Runs.{OncePerLiveChain, OwnIsReturned, PagesAreMarked};
 ghost use Rattle.live_machine.specs.Runs.{ReturnedIsStepBy, ReturnsAreMapped};
 ghost use Rattle.live_machine.specs.Runs.{ReturnsReport, RunsOnQueue, PositionsAgree, StoresStayThere};
 ghost use Rattle.live_machine.specs.Serial.{SingleIsStep, SerialIsKick};
@@ -48,7 +48,7 @@ pub fn law_runs<F: FileSystem, G: FileSystem>()
     ensures step { ReturnedIsStepBy F.may G.may }
     ensures own { OwnIsReturned G F.may }
     ensures stores { StoresStayThere F.may }
-    ensures pages { PagesAreReported F.may }
+    ensures pages { PagesAreMarked F.may }
     ensures tell { ReturnsReport F.may }
     ensures log { PagesOfRun F.may }
     ensures positions { PositionsAgree F.may }

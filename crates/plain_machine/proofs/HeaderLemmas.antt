@@ -8,7 +8,7 @@ use Rattle.vm_values.specs.Fields.{field_bytes}
 use Rattle.fuse_fs.specs.Calls.{FileCall, FileAnswer}
 use Rattle.fuse_fs.specs.Calls as call
 use Rattle.server_calls.specs.Requests.{is_silent}
-use Rattle.server_replies.specs.WholeReplies.{reply_bytes, error_bytes, data_reply, reported_bytes, listing_bytes, listing_answer}
+use Rattle.server_replies.specs.WholeReplies.{reply_bytes, error_bytes, data_reply, bytes_of_answer, listing_bytes, listing_answer}
 use Rattle.server_replies.specs.WholeReplies.{started_bytes, versions_bytes}
 use Rattle.server_replies.proofs.ReplyLemmas.{length_reply, length_error}
 use Rattle.server_meanings.specs.Grammar.{Meaning, Replies, Asks, FileCommand, One, Starts, Lists, meaning}
@@ -38,9 +38,9 @@ unless_silent : (silent : Bool) (unique : ℕ) (body : List ℕ) → IsHeaded (i
 unless_silent true unique body = none_headed
 unless_silent false unique body = reply_headed unique body
 
-reported_headed : (silent : Bool) (unique : ℕ) (a : FileAnswer) → IsHeaded (reported_bytes silent unique a)
-reported_headed silent unique (call.Failed errno) = error_headed unique errno
-reported_headed silent unique _ = unless_silent silent unique _
+answer_headed : (silent : Bool) (unique : ℕ) (a : FileAnswer) → IsHeaded (bytes_of_answer silent unique a)
+answer_headed silent unique (call.Failed errno) = error_headed unique errno
+answer_headed silent unique _ = unless_silent silent unique _
 
 start_headed : (page_size unique capable readahead : ℕ) (a : FileAnswer) → IsHeaded (start_answered page_size unique capable readahead a)
 start_headed page_size unique capable readahead (call.Wants wanted) =
@@ -60,56 +60,56 @@ RepliesHeaded (Replies bytes) = IsHeaded bytes
 RepliesHeaded _ = Unit {0}
 
 -- a reply begins with its header, and has room
-abbrev IsReported : (room : ℕ) → List ℕ → Type 0
-IsReported room bytes = IsHeaded bytes × (length bytes ≤ room)
+abbrev HeadedIn : (room : ℕ) → List ℕ → Type 0
+HeadedIn room bytes = IsHeaded bytes × (length bytes ≤ room)
 
-none_reported : (room : ℕ) → IsReported room []
-none_reported room = (none_headed, omega arith)
+nothing_headed : (room : ℕ) → HeadedIn room []
+nothing_headed room = (none_headed, omega arith)
 
 unless_long :
     (room : ℕ) (calls : List FileCall) (options : ℕ) (bytes : List ℕ) (long : Bool) → nat_lt room (length bytes) ≡ long → IsHeaded bytes →
-    IsReported room (if long then [] else bytes)
-unless_long room calls options bytes true is headed = none_reported room
+    HeadedIn room (if long then [] else bytes)
+unless_long room calls options bytes true is headed = nothing_headed room
 unless_long room calls options bytes false is headed = (headed, ltb-false room (length bytes) is)
 
-which_reply : (room : ℕ) (calls : List FileCall) (options : ℕ) (bytes : List ℕ) (long : Bool) → IsReported room (if long then [] else bytes)
+which_reply : (room : ℕ) (calls : List FileCall) (options : ℕ) (bytes : List ℕ) (long : Bool) → HeadedIn room (if long then [] else bytes)
     → nat_lt room (length bytes) ≡ long →
-    IsReported room (replied room calls options bytes).reply
-which_reply room calls options bytes true reported is = rw is reported
-which_reply room calls options bytes false reported is = rw is reported
+    HeadedIn room (replied room calls options bytes).reply
+which_reply room calls options bytes true headed is = rw is headed
+which_reply room calls options bytes false headed is = rw is headed
 
-replied_reported : (room : ℕ) (calls : List FileCall) (options : ℕ) (bytes : List ℕ) → IsHeaded bytes →
-    IsReported room (replied room calls options bytes).reply
-replied_reported room calls options bytes headed =
+replied_headed : (room : ℕ) (calls : List FileCall) (options : ℕ) (bytes : List ℕ) → IsHeaded bytes →
+    HeadedIn room (replied room calls options bytes).reply
+replied_headed room calls options bytes headed =
     which_reply room calls options bytes (nat_lt room (length bytes))
     (unless_long room calls options bytes (nat_lt room (length bytes)) refl headed) refl
 
-list_reported : (s : Setting) (unique : ℕ) (l : ListRequest) (a : FileAnswer) (answers : List FileAnswer) →
-    IsReported s.room (list_answered s unique l a answers).reply
-list_reported s unique l (call.Entries ds) answers =
+listing_headed : (s : Setting) (unique : ℕ) (l : ListRequest) (a : FileAnswer) (answers : List FileAnswer) →
+    HeadedIn s.room (list_answered s unique l a answers).reply
+listing_headed s unique l (call.Entries ds) answers =
     let w = list_entries l ds l.size (s.room - 16) answers in
-    replied_reported s.room _ s.options (listing_bytes unique l.with_nodes w.bytes w.error)
+    replied_headed s.room _ s.options (listing_bytes unique l.with_nodes w.bytes w.error)
     (data_headed unique (listing_answer (length w.bytes) l.with_nodes w.error) w.bytes)
-list_reported s unique l (call.Failed errno) answers =
-    replied_reported s.room _ s.options (error_bytes unique errno) (error_headed unique errno)
-list_reported s unique l _ answers = none_reported s.room
+listing_headed s unique l (call.Failed errno) answers =
+    replied_headed s.room _ s.options (error_bytes unique errno) (error_headed unique errno)
+listing_headed s unique l _ answers = nothing_headed s.room
 
-command_reported : (s : Setting) (command : FileCommand) (answers : List FileAnswer) → IsReported s.room (commanded s command answers).reply
-command_reported s (One unique c) [] = none_reported s.room
-command_reported s (One unique c) (a ∷ answers) =
-    replied_reported s.room _ _ (answer_bytes unique c a) (reported_headed (is_silent c) unique a)
-command_reported s (Starts unique capable readahead) [] = none_reported s.room
-command_reported s (Starts unique capable readahead) (a ∷ answers) =
-    replied_reported s.room _ _ (start_answered s.page_size unique capable readahead a)
+command_headed : (s : Setting) (command : FileCommand) (answers : List FileAnswer) → HeadedIn s.room (commanded s command answers).reply
+command_headed s (One unique c) [] = nothing_headed s.room
+command_headed s (One unique c) (a ∷ answers) =
+    replied_headed s.room _ _ (answer_bytes unique c a) (answer_headed (is_silent c) unique a)
+command_headed s (Starts unique capable readahead) [] = nothing_headed s.room
+command_headed s (Starts unique capable readahead) (a ∷ answers) =
+    replied_headed s.room _ _ (start_answered s.page_size unique capable readahead a)
     (start_headed s.page_size unique capable readahead a)
-command_reported s (Lists unique l) [] = none_reported s.room
-command_reported s (Lists unique l) (a ∷ answers) = list_reported s unique l a answers
+command_headed s (Lists unique l) [] = nothing_headed s.room
+command_headed s (Lists unique l) (a ∷ answers) = listing_headed s unique l a answers
 
 -- what is served begins with its header, and has room
-served_reported : (s : Setting) (m : Meaning) (answers : List FileAnswer) → RepliesHeaded m → IsReported s.room (served s m answers).reply
-served_reported s (Replies bytes) answers h = replied_reported s.room [] s.options bytes h
-served_reported s (Asks command) answers h = command_reported s command answers
-served_reported s _ answers h = none_reported s.room
+served_headed : (s : Setting) (m : Meaning) (answers : List FileAnswer) → RepliesHeaded m → HeadedIn s.room (served s m answers).reply
+served_headed s (Replies bytes) answers h = replied_headed s.room [] s.options bytes h
+served_headed s (Asks command) answers h = command_headed s command answers
+served_headed s _ answers h = nothing_headed s.room
 
 -- ---- what a request means
 
@@ -124,7 +124,7 @@ meaning_headed options room bs =
     }) bs
 
 -- the reply to a request begins with its header, and has room
-pub reply_reported : (s : Setting) (options room : ℕ) (bs : List ℕ) (answers : List FileAnswer) →
+pub whole_headed : (s : Setting) (options room : ℕ) (bs : List ℕ) (answers : List FileAnswer) →
     IsHeaded (served s (meaning options bs room) answers).reply ×
     (length (served s (meaning options bs room) answers).reply ≤ s.room)
-reply_reported s options room bs answers = served_reported s (meaning options bs room) answers (meaning_headed options room bs)
+whole_headed s options room bs answers = served_headed s (meaning options bs room) answers (meaning_headed options room bs)

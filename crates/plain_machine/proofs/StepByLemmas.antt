@@ -125,8 +125,8 @@ flags_find m q (store ∷ stores) flags is =
     flags_find (after_stores m (store ∷ [])) q stores flags (is ∙ ap (λ (k : Memory). bytes k q.avail 2) (stored_in_turn m store stores))
 
 -- whether the driver is told, by the flags as a memory has them
-reported_by_flags : (m : Memory) (q : Queue) (flags : List ℕ) → flags ≡ bytes m q.avail 2 → notifies flags ≡ wants_notice m q
-reported_by_flags m q flags is = ap notifies is
+notice_by_flags : (m : Memory) (q : Queue) (flags : List ℕ) → flags ≡ bytes m q.avail 2 → notifies flags ≡ wants_notice m q
+notice_by_flags m q flags is = ap notifies is
 
 -- ---- a step by loads that one memory has is a step
 
@@ -170,7 +170,7 @@ module _ {F : Type 0} (may : May F) (s : State F) (i : ℕ) (e : Effects) (after
           exchange = back.exchange;
           state = ap (λ (t : State F). at t stored) back.state
               ∙ ap (at (record s { queues = changed_at s.queues i (λ _. advanced q); options = options; files = after.files })) memory;
-          reported = back.reported ∙ reported_by_flags stored q back.flags found;
+          reported = back.reported ∙ notice_by_flags stored q back.flags found;
         }
 
     exchanges_still : (o : Offer) (calls : Calls) (x : Exchange) (notice : Bool) →
@@ -303,16 +303,16 @@ module _ {F : Type 0} (may : May F) (s : State F) (i : ℕ) (q : Queue) (there :
   unchanged_by : (calls : Calls) (after : State F) → Unchanged s calls after → Unchanged s calls (at after s.memory)
   unchanged_by calls after same = record { same = ap (λ (t : State F). at t s.memory) same.same; no_call = same.no_call }
 
-  preserved_memory : (after t : State F) → after ≡ t → t.memory ≡ s.memory → after.memory ≡ after_stores s.memory []
+  kept_memory : (after t : State F) → after ≡ t → t.memory ≡ s.memory → after.memory ≡ after_stores s.memory []
   unfolding stored_all
-  preserved_memory after t is preserved = ap (λ (u : State F). u.memory) is ∙ preserved
+  kept_memory after t is kept = ap (λ (u : State F). u.memory) is ∙ kept
 
   refused_by : (h : HasLoads s.memory s.limit q) (error : QueueError) (calls : Calls) (after : State F) →
       after ≡ with_queue s i (after_refusal q error) →
       ActsBy may s i q (offer s.memory s.limit q) calls (Refused (device.Queue error)) (effects_of []) (at after s.memory) →
       HasEffects may s i calls (Refused (device.Queue error)) after
   refused_by h error calls after state acts = with_effects h [] calls (Refused (device.Queue error)) after tt
-      (preserved_memory after (with_queue s i (after_refusal q error)) state refl) acts
+      (kept_memory after (with_queue s i (after_refusal q error)) state refl) acts
 
   over_same : (after t : State F) → after ≡ t → at after s.memory ≡ at t s.memory
   over_same after t is = ap (λ (u : State F). at u s.memory) is
@@ -321,9 +321,9 @@ module _ {F : Type 0} (may : May F) (s : State F) (i : ℕ) (q : Queue) (there :
       Acts may s i q (offer s.memory s.limit q) calls outcome after →
       HasEffects may s i calls outcome after
   acts_by h calls Idle after (offered, same) =
-      with_effects h [] calls Idle after tt (preserved_memory after s same.same refl) (offered, unchanged_by calls after same, refl)
+      with_effects h [] calls Idle after tt (kept_memory after s same.same refl) (offered, unchanged_by calls after same, refl)
   acts_by h calls (Refused (device.Queue stop.OutOfMemory)) after (lacks, same) =
-      with_effects h [] calls (Refused (device.Queue stop.OutOfMemory)) after tt (preserved_memory after s same.same refl)
+      with_effects h [] calls (Refused (device.Queue stop.OutOfMemory)) after tt (kept_memory after s same.same refl)
       (lacks, unchanged_by calls after same, refl)
   acts_by h calls (Refused (device.Queue e)) after made =
       refused_by h e calls after made.2 (made.0, made.1, over_same after _ made.2, refl)

@@ -9,8 +9,8 @@ use Rattle.fs_queue.specs.Taking.{RequestAndRoom, IsRequest, CannotFetch, Offer,
 use Rattle.fs_queue.specs.Returning.{returned, writes}
 use Rattle.server_meanings.specs.Serving.{May, setting}
 use Rattle.plain_machine.specs.Step.{State, Exchange, Exchanged, Calls, Exchanges, StepOf, Step, answers_alone}
-use Rattle.plain_machine.specs.UsedLength.{IsOffered, ReportsLength, LengthsAreReported, reply_writes, ring_writes}
-use Rattle.plain_machine.proofs.HeaderLemmas.{IsHeaded, reply_reported}
+use Rattle.plain_machine.specs.UsedLength.{IsOffered, ReportsLength, LengthsAreOfReplies, reply_writes, ring_writes}
+use Rattle.plain_machine.proofs.HeaderLemmas.{IsHeaded, whole_headed}
 
 -- ---- what is told
 
@@ -103,23 +103,23 @@ step_stores may s after i calls x notice step =
     (writes o.0.queue x.head (room_of o.0.fetched) x.reply, exchange_returns may s i o.0.queue x.head o.0.fetched calls x notice after o.1)
 
 -- a reply begins with its header and has room
-exchange_reported : {F : Type 0} (may : May F) (s : State F) (i : ℕ) (q : Queue) (head : ℕ) (fetched : RequestAndRoom) (calls : Calls)
+exchange_headed : {F : Type 0} (may : May F) (s : State F) (i : ℕ) (q : Queue) (head : ℕ) (fetched : RequestAndRoom) (calls : Calls)
     (x : Exchange) (notice : Bool) (after : State F) →
     Exchanges may s i q (Offers head fetched) calls x notice after → IsHeaded x.reply × (length x.reply ≤ length (room_of fetched))
-exchange_reported may s i q head (CannotFetch why) calls x notice after r =
+exchange_headed may s i q head (CannotFetch why) calls x notice after r =
     subst (λ (bytes : List ℕ). IsHeaded bytes × (length bytes ≤ 0)) (sym (ap (λ (e : Exchange). e.reply) r.returns.exchange))
     ((λ some. absurd (omega (arith, some))), omega arith)
-exchange_reported may s i q head (IsRequest request room) calls x notice after r =
+exchange_headed may s i q head (IsRequest request room) calls x notice after r =
     subst (λ (bytes : List ℕ). IsHeaded bytes × (length bytes ≤ length room))
     (sym (ap (λ (e : Exchange). e.reply) r.returns.exchange ∙ ap (λ g. g.reply) r.serves.gives))
-    (reply_reported (setting s.page_size s.options (length room)) s.options (length room) request (answers_alone calls))
+    (whole_headed (setting s.page_size s.options (length room)) s.options (length room) request (answers_alone calls))
 
-pub lengths_are_reported : {F : Type 0} (may : May F) → LengthsAreReported may
-lengths_are_reported may s after i calls x notice step =
+pub lengths_are_of_replies : {F : Type 0} (may : May F) → LengthsAreOfReplies may
+lengths_are_of_replies may s after i calls x notice step =
     let found = step_offers may s after i calls x notice step in
     let o = found.0 in
-    let reported = exchange_reported may s i o.queue x.head o.fetched calls x notice after found.1 in (
+    let headed = exchange_headed may s i o.queue x.head o.fetched calls x notice after found.1 in (
       o,
       reports s.memory o.queue x.head (room_of o.fetched) x.reply after.memory
-          (exchange_returns may s i o.queue x.head o.fetched calls x notice after found.1) reported.1 reported.0,
+          (exchange_returns may s i o.queue x.head o.fetched calls x notice after found.1) headed.1 headed.0,
     )

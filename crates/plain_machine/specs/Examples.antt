@@ -233,11 +233,11 @@ unfolding offer place addresses stored_all path found
 element_stands = refl
 
 -- the driver suppresses notifications (VIRTQ_AVAIL_F_NO_INTERRUPT)
-not_reported : Step may (device (put with_one_request 0x100 (le16 1)) queue) 0 []
+not_notified : Step may (device (put with_one_request 0x100 (le16 1)) queue) 0 []
     (Exchanged unknown_exchange false) (after_reply (put with_one_request 0x100 (le16 1)) queue)
 unfolding offer place addresses stored_all path found meaning record_parser meant error_bytes
     fields.field_bytes
-not_reported = record {
+not_notified = record {
   given = record { calls = []; options = 0; reply = unknown_reply; fault = None };
   serves = record { gives = refl; asks = refl; run = refl };
   returns = record { exchange = refl; state = refl; reported = refl };

@@ -107,22 +107,22 @@ DoneMarks s command after = KeepsMarks s.memory.host after.memory.host
 
 -- a kick marks the pages that its exchanges write to, one after another
 abbrev pub ServedMarks : {F : Type 0} → May F → State F → Command → Turns → State F → Type 0
-ServedMarks may s (Kick i most) reported after =
-    (written : List ℕ) × KickWrites may s i most reported written × Marks s.memory written after.memory.host
-ServedMarks may s command reported after = KeepsMarks s.memory.host after.memory.host
+ServedMarks may s (Kick i most) turns after =
+    (written : List ℕ) × KickWrites may s i most turns written × Marks s.memory written after.memory.host
+ServedMarks may s command turns after = KeepsMarks s.memory.host after.memory.host
 
 -- the marks after a command with this answer: an image and a harvest clear the marks of blocks, a kick
 -- and a guest's write mark pages, and every other command keeps all marks
 abbrev pub AnswerMarks : {F : Type 0} → May F → Answer → State F → Command → Turns → State F → Type 0
-AnswerMarks may Done s command reported after = DoneMarks s command after
-AnswerMarks may (Served k) s command reported after = ServedMarks may s command reported after
-AnswerMarks may (Copied copy) s command reported after = ClearsMarks s.memory.host after.memory.host
-AnswerMarks may (Pages pages) s command reported after = ClearsMarks s.memory.host after.memory.host
-AnswerMarks may answer s command reported after = KeepsMarks s.memory.host after.memory.host
+AnswerMarks may Done s command turns after = DoneMarks s command after
+AnswerMarks may (Served k) s command turns after = ServedMarks may s command turns after
+AnswerMarks may (Copied copy) s command turns after = ClearsMarks s.memory.host after.memory.host
+AnswerMarks may (Pages pages) s command turns after = ClearsMarks s.memory.host after.memory.host
+AnswerMarks may answer s command turns after = KeepsMarks s.memory.host after.memory.host
 
 -- theorem: each command of a run changes the marks just like that
 abbrev pub CommandsMark : {F : Type 0} → May F → Type 0
 CommandsMark {F} may =
-    (s after : State F) (command : Command) (reported : Turns) (answer : Answer) →
-    Performs may s command reported answer after →
-    AnswerMarks may answer s command reported after
+    (s after : State F) (command : Command) (turns : Turns) (answer : Answer) →
+    Performs may s command turns answer after →
+    AnswerMarks may answer s command turns after

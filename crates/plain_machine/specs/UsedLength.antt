@@ -41,8 +41,8 @@ pub record IsOffered {F : Type 0} (s : State F) (i : ℕ) (x : Exchange) : Type 
   pub offered : offer s.memory s.limit queue ≡ Offers x.head fetched
 
 -- theorem: the used length of each exchange is the length of its reply
-abbrev pub LengthsAreReported : {F : Type 0} → May F → Type 0
-LengthsAreReported {F} may =
+abbrev pub LengthsAreOfReplies : {F : Type 0} → May F → Type 0
+LengthsAreOfReplies {F} may =
     (s after : State F) (i : ℕ) (calls : Calls) (x : Exchange) (notice : Bool) →
     Step may s i calls (Exchanged x notice) after →
     (o : IsOffered s i x)

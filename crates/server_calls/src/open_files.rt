@@ -42,9 +42,9 @@ fn releasing_owner(request: &ReleaseIn) -> Option<u64>
     ensures { result ≡ if_set (has_bit request.now.release_flags 0 || has_bit request.now.release_flags 1)
         request.now.lock_owner }
 {
-    let reported = request.release_flags & RELEASE_FLUSH != 0
+    let is_set = request.release_flags & RELEASE_FLUSH != 0
         || request.release_flags & RELEASE_FLOCK_UNLOCK != 0;
-    number_if(reported, request.lock_owner)
+    number_if(is_set, request.lock_owner)
 }
 
 /// RELEASE (`struct fuse_release_in`): closes an open file.

@@ -15,10 +15,10 @@ use fuse_in::{InHeader, InRecord};
 use fuse_values::{FileCall, Placed, Received};
 
 /// A number, if its flag is set.
-pub fn number_if(reported: bool, number: u64) -> Option<u64>
-    ensures { result ≡ if_set reported number }
+pub fn number_if(is_set: bool, number: u64) -> Option<u64>
+    ensures { result ≡ if_set is_set number }
 {
-    if reported { Some(number) } else { None }
+    if is_set { Some(number) } else { None }
 }
 
 /// A request that is only its header.

@@ -51,7 +51,7 @@ pub fn make_write_call<F: FileSystem, R: ZeroCopyReader>(
     ensures errno { IfErr result (λ e. (0 < e) × (e < 4096)) }
     ensures count { IfOk result (λ n. n < 2 ^ 32) }
 {
-    let reported = write_flags(request);
+    let bits = write_flags(request);
     received_count(fs.write(
         Context::from(*head),
         F::Inode::numbered(head.nodeid),
@@ -59,9 +59,9 @@ pub fn make_write_call<F: FileSystem, R: ZeroCopyReader>(
         from,
         request.size,
         request.offset,
-        reported.owner,
-        reported.delayed,
-        reported.kill,
+        bits.owner,
+        bits.delayed,
+        bits.kill,
         request.flags,
     ))
 }

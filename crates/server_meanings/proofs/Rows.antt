@@ -149,9 +149,9 @@ pub init_short_later : (g : Given) (bytes more : List ℕ) (r : InitInCompat) (e
 init_short_later g bytes more r e h k = rw (← h, ← k) refl
 
 -- no reply
-pub silent_reported : (room : ℕ) (result : Result ℕ Error) (written : List ℕ) → result ≡ Ok 0 → written ≡ [] →
+pub silent_returned : (room : ℕ) (result : Result ℕ Error) (written : List ℕ) → result ≡ Ok 0 → written ≡ [] →
     with_written result written ≡ whole_or_none room []
-silent_reported room result written e w = let room_enough : 0 ≤ room = omega arith in rw (e, w, le-ltb room 0 room_enough) refl
+silent_returned room result written e w = let room_enough : 0 ≤ room = omega arith in rw (e, w, le-ltb room 0 room_enough) refl
 
 -- a request by its header
 pub meaning_head : (options room : ℕ) (request more : List ℕ) (h : InHeader) → Ok (h, more) ≡ record_parser in_header request →
@@ -204,26 +204,26 @@ data_sent room unique (Err k) bytes fits =
     sent_fits room (error_bytes unique k) (rw (length_error unique k) enough)
 
 -- a header, and the data behind it
-pub read_reported : (room unique : ℕ) (h : InHeader) (left : ℕ) (r : ReadIn) (answer : Result ℕ ℕ) (front before written bytes : List ℕ)
+pub read_returned : (room unique : ℕ) (h : InHeader) (left : ℕ) (r : ReadIn) (answer : Result ℕ ℕ) (front before written bytes : List ℕ)
     (n : ℕ)
     → length front ≡ 16 → before ≡ front ++ bytes → 16 + length bytes ≤ room → written ≡ data_reply unique answer (drop 16 before)
     → with_written (Ok n) written ≡ whole_or_none room (answer_bytes unique (read_call h left r) (data_answer answer bytes))
-read_reported room unique h left r (Ok k) front before written bytes n l e fits w =
+read_returned room unique h left r (Ok k) front before written bytes n l e fits w =
     let back : drop 16 before ≡ bytes = rw e (drop_at front bytes 16 l) in
     ap Ok (w ∙ ap (reply_bytes unique) back) ∙ sym (sent_fits room (reply_bytes unique bytes) (rw (length_reply unique bytes) fits))
-read_reported room unique h left r (Err k) front before written bytes n l e fits w =
+read_returned room unique h left r (Err k) front before written bytes n l e fits w =
     let enough : 16 ≤ room = omega (arith, fits) in
     ap Ok w ∙ sym (sent_fits room (error_bytes unique k) (rw (length_error unique k) enough))
 
 -- the same, where the data stands apart from the header
-pub read_reported_apart : (room unique : ℕ) (h : InHeader) (left : ℕ) (r : ReadIn) (answer : Result ℕ ℕ) (header bytes : List ℕ) (n : ℕ)
+pub read_returned_apart : (room unique : ℕ) (h : InHeader) (left : ℕ) (r : ReadIn) (answer : Result ℕ ℕ) (header bytes : List ℕ) (n : ℕ)
     → header ≡ data_header unique answer → IfOk answer (λ k. k ≡ length bytes) → OnErr answer (length bytes ≡ 0) → 16 + length bytes ≤ room
     → with_written (Ok n) (header ++ bytes) ≡ whole_or_none room (answer_bytes unique (read_call h left r) (data_answer answer bytes))
 unfolding reply_bytes
-read_reported_apart room unique h left r (Ok k) header bytes n e long none fits =
+read_returned_apart room unique h left r (Ok k) header bytes n e long none fits =
     let is : header ++ bytes ≡ reply_bytes unique bytes = rw (e, long) refl in
     ap Ok is ∙ sym (sent_fits room (reply_bytes unique bytes) (rw (length_reply unique bytes) fits))
-read_reported_apart room unique h left r (Err k) header bytes n e long none fits =
+read_returned_apart room unique h left r (Err k) header bytes n e long none fits =
     let enough : 16 ≤ room = omega (arith, fits) in
     let is : header ++ bytes ≡ error_bytes unique k = rw (e, nil_from_length bytes none) (append-nil (error_bytes unique k)) in
     ap Ok is ∙ sym (sent_fits room (error_bytes unique k) (rw (length_error unique k) enough))
@@ -295,11 +295,11 @@ listing_asks with_nodes g r more h k l =
     rw (test, room, place) refl
 
 -- a header, and the entries behind it
-pub listing_reported : (room unique n : ℕ) (with_nodes : Bool) (front before written bytes : List ℕ) (error : Option ℕ) → length front ≡ 16
+pub listing_returned : (room unique n : ℕ) (with_nodes : Bool) (front before written bytes : List ℕ) (error : Option ℕ) → length front ≡ 16
     → before ≡ front ++ bytes
     → 16 + length bytes ≤ room → written ≡ listing_bytes unique with_nodes (drop 16 before) error
     → with_written (Ok n) written ≡ whole_or_none room (listing_bytes unique with_nodes bytes error)
-listing_reported room unique n with_nodes front before written bytes error l e fits w =
+listing_returned room unique n with_nodes front before written bytes error l e fits w =
     let back : drop 16 before ≡ bytes = rw e (drop_at front bytes 16 l) in
     ap Ok (w ∙ ap (λ (b : List ℕ). listing_bytes unique with_nodes b error) back)
     ∙ sym (data_sent room unique (listing_answer (length bytes) with_nodes error) bytes fits)

@@ -18,29 +18,29 @@ use Rattle.server_segments.specs.Errors.{is_memory}
 use Rattle.server_segments.specs.declared.error.Error.{Error}
 use Rattle.server_segments.specs.declared.error.Error.TheVariants.{EncodeMessage}
 
-reported_by : (t : Bool) (calls : List FileCall) (options : ℕ) (bytes : List ℕ) (result : Result ℕ Error) (written : List ℕ)
+returned_by : (t : Bool) (calls : List FileCall) (options : ℕ) (bytes : List ℕ) (result : Result ℕ Error) (written : List ℕ)
     → with_written result written ≡ cond t (Err EncodeMessage) (Ok bytes)
     → cond t (no_reply calls options (Some EncodeMessage)) (record { calls = calls; options = options; reply = bytes; fault = None })
     ≡ served_of calls options result written
-reported_by true calls options bytes (Ok n) written e = absurd (cc)
-reported_by true calls options bytes (Err f) written e = let same : EncodeMessage ≡ f = cc in ap (λ x. no_reply calls options (Some x)) same
-reported_by false calls options bytes (Ok n) written e =
+returned_by true calls options bytes (Ok n) written e = absurd (cc)
+returned_by true calls options bytes (Err f) written e = let same : EncodeMessage ≡ f = cc in ap (λ x. no_reply calls options (Some x)) same
+returned_by false calls options bytes (Ok n) written e =
     let same : bytes ≡ written = cc in ap (λ x. record { calls = calls; options = options; reply = x; fault = None }) same
-reported_by false calls options bytes (Err f) written e = absurd (cc)
+returned_by false calls options bytes (Err f) written e = absurd (cc)
 
 -- what was told is the whole reply, or none
-pub reported_replied : (room : ℕ) (calls : List FileCall) (options : ℕ) (bytes : List ℕ) (result : Result ℕ Error) (written : List ℕ)
+pub returned_replied : (room : ℕ) (calls : List FileCall) (options : ℕ) (bytes : List ℕ) (result : Result ℕ Error) (written : List ℕ)
     → with_written result written ≡ whole_or_none room bytes → replied room calls options bytes ≡ served_of calls options result written
-reported_replied room calls options bytes result written e = reported_by (nat_lt room (length bytes)) calls options bytes result written e
+returned_replied room calls options bytes result written e = returned_by (nat_lt room (length bytes)) calls options bytes result written e
 
 memory_by : (t : Bool) (bytes : List ℕ) (e : Error) → Err e ≡ cond t (Err EncodeMessage) (Ok bytes) → lacks_memory (Err e) ≡ false
 memory_by true bytes e h = let same : e ≡ EncodeMessage = cc in rw same refl
 memory_by false bytes e h = absurd (cc)
 
-pub reported_memory : (room : ℕ) (bytes : List ℕ) (result : Result ℕ Error) (written : List ℕ) →
+pub returned_memory : (room : ℕ) (bytes : List ℕ) (result : Result ℕ Error) (written : List ℕ) →
     with_written result written ≡ whole_or_none room bytes → lacks_memory result ≡ false
-reported_memory room bytes (Ok n) written h = refl
-reported_memory room bytes (Err e) written h = memory_by (nat_lt room (length bytes)) bytes e h
+returned_memory room bytes (Ok n) written h = refl
+returned_memory room bytes (Err e) written h = memory_by (nat_lt room (length bytes)) bytes e h
 
 -- if nothing is to be undone, no call comes after the reply
 none_undone : (t : Bool) (undo : List FileCall) → undo ≡ [] → cond t undo [] ≡ []
@@ -62,8 +62,8 @@ module _ {F : Type 0} (may : F → FileCall → FileAnswer → F → Type 0) whe
       (s : Setting) (m : Meaning) (bytes : List ℕ) (before : F) (result : Result ℕ Error) (written : List ℕ) → m ≡ Replies bytes
       → with_written result written ≡ whole_or_none s.room bytes → Handles may s m before result written s.options before
   handles_reply s m bytes before result written e h =
-      rw e (handled s (Replies bytes) before result written s.options before (reported_memory s.room bytes result written h)
-      (record { steps = []; run = refl; gives = reported_replied s.room [] s.options bytes result written h }))
+      rw e (handled s (Replies bytes) before result written s.options before (returned_memory s.room bytes result written h)
+      (record { steps = []; run = refl; gives = returned_replied s.room [] s.options bytes result written h }))
 
   -- no call and no reply
   pub handles_silence : (s : Setting) (m : Meaning) (before : F) (result : Result ℕ Error) (written : List ℕ) → m ≡ IsSilent → result ≡ Ok 0
@@ -102,11 +102,11 @@ module _ {F : Type 0} (may : F → FileCall → FileAnswer → F → Type 0) whe
       let asked : (call ∷ map (λ step. step.0) (all_done calls)) ≡ call ∷ undone s.room bytes (forget_entry call answer) =
       ap (λ (more : List FileCall). call ∷ more) (calls_done calls ∙ ap (undone s.room bytes) (sym back)) in
       rw (e, o) (handled s (Asks (One unique call)) before result written (options_after s.options call) after
-      (reported_memory s.room bytes result written h)
+      (returned_memory s.room bytes result written h)
       (record {
         steps = (call, answer) ∷ all_done calls;
         run = (between, fits, step, more);
-        gives = rw asked (reported_replied s.room (call ∷ undone s.room bytes (forget_entry call answer)) (options_after s.options call)
+        gives = rw asked (returned_replied s.room (call ∷ undone s.room bytes (forget_entry call answer)) (options_after s.options call)
             bytes
             result written h);
       }))
@@ -145,11 +145,11 @@ module _ {F : Type 0} (may : F → FileCall → FileAnswer → F → Type 0) whe
       → Handles may s m before result written options after
   handles_start s m unique capable readahead answer before after result written options e fits step o h =
       rw (e, o) (handled s (Asks (Starts unique capable readahead)) before result written (start_options s.options capable answer) after
-      (reported_memory s.room (start_answered s.page_size unique capable readahead answer) result written h)
+      (returned_memory s.room (start_answered s.page_size unique capable readahead answer) result written h)
       (record {
         steps = (Init capable, answer) ∷ [];
         run = (after, fits, step, refl);
-        gives = reported_replied s.room (Init capable ∷ [])
+        gives = returned_replied s.room (Init capable ∷ [])
             (start_options s.options capable answer) (start_answered s.page_size unique capable readahead answer) result written h;
       }))
 
@@ -163,12 +163,12 @@ module _ {F : Type 0} (may : F → FileCall → FileAnswer → F → Type 0) whe
       → Handles may s m before result written options after
   handles_list s m unique l ds before between after front final error result written options e step outcome o h =
       rw (e, o) (handled s (Asks (Lists unique l)) before result written s.options after
-      (reported_memory s.room (listing_bytes unique l.with_nodes outcome.bytes error) result written h)
+      (returned_memory s.room (listing_bytes unique l.with_nodes outcome.bytes error) result written h)
       (record {
         steps = (readdir_call l, Entries ds) ∷ outcome.steps;
         run = (between, refl, step, outcome.run);
         gives = ap (list_ended s unique l) outcome.gives
-            ∙ reported_replied s.room (readdir_call l ∷ map (λ step. step.0) outcome.steps) s.options
+            ∙ returned_replied s.room (readdir_call l ∷ map (λ step. step.0) outcome.steps) s.options
             (listing_bytes unique l.with_nodes outcome.bytes error) result written h;
       }))
 
@@ -180,11 +180,11 @@ module _ {F : Type 0} (may : F → FileCall → FileAnswer → F → Type 0) whe
       → with_written result written ≡ whole_or_none s.room (error_bytes unique errno) → Handles may s m before result written options after
   handles_unlisted s m unique l errno before after result written options e fits step o h =
       rw (e, o) (handled s (Asks (Lists unique l)) before result written s.options after
-      (reported_memory s.room (error_bytes unique errno) result written h)
+      (returned_memory s.room (error_bytes unique errno) result written h)
       (record {
         steps = (readdir_call l, Failed errno) ∷ [];
         run = (after, fits, step, refl);
-        gives = reported_replied s.room (readdir_call l ∷ []) s.options (error_bytes unique errno) result written h;
+        gives = returned_replied s.room (readdir_call l ∷ []) s.options (error_bytes unique errno) result written h;
       }))
 
 -- what is asked for by what was read

@@ -97,13 +97,13 @@ later_cut = refl
 
 -- struct fuse_init_out for a client with readahead 0x20000 and agreed option 1: 65535 requests,
 -- 49149, 2^20 bytes, 256 pages
-abbrev reported_options : List ℕ
-reported_options =
+abbrev init_options : List ℕ
+init_options =
     le32 7 ++ le32 38 ++ le32 0x20000 ++ le32 1 ++ le16 65535 ++ le16 49149 ++ le32 (2 ^ 20) ++ le32 1
     ++ le16 256 ++ zeros 34
 
 -- INIT of version 7.38 with one option; the file system wants none
-start_means : (serve (init 7 38 0x20000 1) 80 (Wants 0 ∷ [])).reply ≡ answer_header 80 0 1 ++ reported_options
+start_means : (serve (init 7 38 0x20000 1) 80 (Wants 0 ∷ [])).reply ≡ answer_header 80 0 1 ++ init_options
 unfolding meaning meant record_parser row reply_bytes started_bytes field_bytes
 start_means = refl
 
@@ -204,10 +204,10 @@ unfolding meaning meant record_parser row counted last_name reply_bytes field_by
 lookup_forgotten = refl
 
 -- with that byte the reply fits, and no node is forgotten
-lookup_reported : (serve (in_header_bytes 42 1 1 1 ++ 97 ∷ 0 ∷ []) 144 (HasEntry node_of_a ∷ [])).calls
+lookup_returned : (serve (in_header_bytes 42 1 1 1 ++ 97 ∷ 0 ∷ []) 144 (HasEntry node_of_a ∷ [])).calls
     ≡ Lookup nobody 1 (97 ∷ []) ∷ []
 unfolding meaning meant record_parser row counted last_name reply_bytes field_bytes
-lookup_reported = refl
+lookup_returned = refl
 
 -- CREATE of `c`, opened for reading and writing
 abbrev create : List ℕ

@@ -50,9 +50,9 @@ ReadsAs splits takes h (value.Fault e) m =
 -- the result of reading these bytes behind the header by a row, for every room
 abbrev pub RowReads : (splits : Bool) → (takes : Given → Bool) → InHeader → (options : ℕ) →
     (Given → Parser Meaning) → (bytes : List ℕ) → RequestMeaning → Type 0
-RowReads splits takes h options row bytes reported =
+RowReads splits takes h options row bytes m =
     (room : ℕ) →
-    ReadsAs splits (takes (given h options room)) h reported
+    ReadsAs splits (takes (given h options room)) h m
     (ended h.unique (row (given h options room) bytes))
 
 -- the names of a call that was read lie in the request, the first one at this offset
@@ -62,8 +62,8 @@ MeaningStandsIn request first _ = Unit {0}
 
 -- and the request is any header (struct fuse_in_header, 40 bytes) with the bytes behind it
 abbrev pub StandsBehindHeader : (bytes : List ℕ) → (first : ℕ) → RequestMeaning → Type 0
-StandsBehindHeader bytes first reported =
-    (header : List ℕ) → length header ≡ 40 → MeaningStandsIn (header ++ bytes) first reported
+StandsBehindHeader bytes first m =
+    (header : List ℕ) → length header ≡ 40 → MeaningStandsIn (header ++ bytes) first m
 
 -- the result of reading a READ with this meaning and room: its record, or the fault
 abbrev pub ReadIsRead : InHeader → (room : ℕ) → Result ReadIn Error → Meaning → Type 0

@@ -8,7 +8,7 @@ use Rattle.server_segments.specs.declared.error.Error.TheVariants.{EncodeMessage
 use Rattle.server_meanings.specs.Listings.{ListRequest, ListingResult, list_entries, readdir_call}
 use Rattle.server_meanings.specs.Grammar.{Meaning, IsFault, Replies, IsSilent, Asks, FileCommand, One, Starts}
 use Rattle.server_meanings.specs.Grammar.{Lists, default_options}
-use Rattle.server_replies.specs.WholeReplies.{reply_bytes, error_bytes, started_bytes, reported_bytes}
+use Rattle.server_replies.specs.WholeReplies.{reply_bytes, error_bytes, started_bytes, bytes_of_answer}
 use Rattle.server_replies.specs.WholeReplies.{listing_bytes}
 use Rattle.server_calls.specs.Requests.{is_silent, options_after, forget_entry}
 pub use Rattle.server_segments.specs.Errors.{is_memory, lacks_memory}
@@ -23,7 +23,7 @@ pub record ServedMessage : Type 0 where
 
 -- the reply to a call's answer
 abbrev pub answer_bytes : ℕ → FileCall → FileAnswer → List ℕ
-answer_bytes unique call answer = reported_bytes (is_silent call) unique answer
+answer_bytes unique call answer = bytes_of_answer (is_silent call) unique answer
 
 -- the agreed options: those of the client that the file system wants or that are agreed by default
 abbrev pub agreed : (capable wanted : ℕ) → ℕ

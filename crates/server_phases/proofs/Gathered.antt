@@ -151,9 +151,9 @@ listed_only unique l es left room f g s =
     simp append-nil at all
 
 -- a reply that has room
-reported_whole : (room options : ℕ) (calls : List FileCall) (reply : List ℕ) → length reply ≤ room →
+whole_replied : (room options : ℕ) (calls : List FileCall) (reply : List ℕ) → length reply ≤ room →
     replied room calls options reply ≡ record { calls = calls; options = options; reply = reply; fault = None }
-reported_whole room options calls reply f = rw (le-ltb room (length reply) f) refl
+whole_replied room options calls reply f = rw (le-ltb room (length reply) f) refl
 
 in_list : (unique len : ℕ) (list bytes : List ℕ) → len ≡ length bytes → take len list ≡ bytes →
     reply_bytes unique bytes ≡ data_header unique (Ok len) ++ take len list
@@ -168,13 +168,13 @@ gives_list : (room options unique len : ℕ) (calls : List FileCall) (list bytes
     → replied room calls options (reply_bytes unique bytes) ≡ by_reply calls options (data_header unique (Ok len) ++ take len list)
 gives_list room options unique len calls list bytes e t f =
     let long = length_reply unique bytes in
-    reported_whole room options calls (reply_bytes unique bytes) (omega (arith, long, e, f))
+    whole_replied room options calls (reply_bytes unique bytes) (omega (arith, long, e, f))
     ∙ ap (by_reply calls options) (in_list unique len list bytes e t)
 
 gives_error : (room options unique errno : ℕ) (calls : List FileCall) (list : List ℕ) → 16 ≤ room
     → replied room calls options (error_bytes unique errno) ≡ by_reply calls options (error_bytes unique errno ++ take 0 list)
 gives_error room options unique errno calls list f =
-    reported_whole room options calls (error_bytes unique errno) (omega (arith, length_error unique errno, f))
+    whole_replied room options calls (error_bytes unique errno) (omega (arith, length_error unique errno, f))
     ∙ ap (by_reply calls options) (sym (append-nil (error_bytes unique errno)))
 
 -- the entries so far are the reply
@@ -290,19 +290,19 @@ failed_fits true b unique errno room bytes t f = rw t (omega (arith, length_repl
 failed_fits false b unique errno room bytes t f = rw t (omega (arith, length_error unique errno, f))
 
 -- a list that an error ended
-failed_reported :
+failed_replied :
     (s : Setting) (l : Listing) (unique errno : ℕ) (a : asked.ListRequest) (calls : List FileCall) (list : List ℕ) (es : List Brought)
     → IsListingFor l s.room (Lists unique a) → Holds l list es → list_ended s unique a
     (yielded calls (all_bytes a.with_nodes es) (Some errno))
     ≡ by_reply (readdir_call a ∷ calls) s.options (listing_bytes l.unique l.with_nodes (all_bytes l.with_nodes es) (Some errno))
-failed_reported s l unique errno a calls list es is holds =
+failed_replied s l unique errno a calls list es is holds =
     let b = a.with_nodes in
     let bytes = all_bytes b es in
     let long : l.len ≡ length bytes = holds.long ∙ ap (λ b. length (all_bytes b es)) is.1 in
     let room : l.room ≡ s.room - 16 = is.3 in
     let place : 16 ≤ s.room = is.4 in
     let fits = l.fits in
-    reported_whole s.room s.options (readdir_call a ∷ calls) (listing_bytes unique b bytes (Some errno))
+    whole_replied s.room s.options (readdir_call a ∷ calls) (listing_bytes unique b bytes (Some errno))
     (failed_fits (b && nat_lt 0 (length bytes)) b unique errno s.room bytes refl (omega (arith, long, room, fits, place)))
     ∙ ap (λ u. by_reply (readdir_call a ∷ calls) s.options (listing_bytes u b bytes (Some errno))) (sym is.0)
     ∙ ap (λ b. by_reply (readdir_call a ∷ calls) s.options (listing_bytes l.unique b (all_bytes b es) (Some errno))) (sym is.1)
@@ -313,7 +313,7 @@ wrong_fails l list e errno wrong s (Lists unique a) es behind answers is holds =
     let command = Lists unique a in
     ap (λ b. commanded s command (Entries (entries_of es ++ e.0 ∷ behind) ∷ (all_found b es ++ (found_of b e ++ answers)))) is.1
     ∙ ap (list_ended s unique a) (out_behind s l unique a list es e behind answers (Some errno) is holds wrong)
-    ∙ failed_reported s l unique errno a (look_ups command es ++ (look_up command e.0 ++ forget_listed command e)) list es is holds
+    ∙ failed_replied s l unique errno a (look_ups command es ++ (look_up command e.0 ++ forget_listed command e)) list es is holds
 wrong_fails l list e errno wrong s _ es behind answers is holds = absurd is
 
 abbrev outcome : Type 0
@@ -401,24 +401,24 @@ look_up_failed s l (Lists unique a) list es d errno is holds n t =
     (omega (arith, long, small, asked)) one in
     ap (λ b. commanded s (Lists unique a) (Entries (entries_of es ++ d ∷ []) ∷ (all_found b es ++ Failed errno ∷ []))) (sym nodes)
     ∙ ap (list_ended s unique a) (all ∙ ap (λ x. yielded calls x (Some errno)) (append-nil (all_bytes b es)))
-    ∙ failed_reported s l unique errno a calls list es is holds
+    ∙ failed_replied s l unique errno a calls list es is holds
 look_up_failed s l _ list es d errno is holds n t = absurd is
 
 -- the reply of an error behind entries whose nodes are held: these
 pub held_reply : (l : Listing) (list : List ℕ) (es : List Brought) (errno : ℕ) → Holds l list es → (l.with_nodes && nat_lt 0 l.len) ≡ true
     → data_header l.unique (Ok l.len) ++ take l.len list ≡ listing_bytes l.unique l.with_nodes (all_bytes l.with_nodes es) (Some errno)
 held_reply l list es errno holds some =
-    let reported : (l.with_nodes && nat_lt 0 (length (all_bytes l.with_nodes es))) ≡ true =
+    let has_nodes : (l.with_nodes && nat_lt 0 (length (all_bytes l.with_nodes es))) ≡ true =
     sym (ap (λ n. l.with_nodes && nat_lt 0 n) holds.long) ∙ some in
-    rw reported (sym (in_list l.unique l.len list (all_bytes l.with_nodes es) holds.long holds.stands))
+    rw has_nodes (sym (in_list l.unique l.len list (all_bytes l.with_nodes es) holds.long holds.stands))
 
 -- else the error
 pub error_reply : (l : Listing) (list : List ℕ) (es : List Brought) (errno : ℕ) → Holds l list es → (l.with_nodes && nat_lt 0 l.len) ≡ false
     → error_bytes l.unique errno ++ take 0 list ≡ listing_bytes l.unique l.with_nodes (all_bytes l.with_nodes es) (Some errno)
 error_reply l list es errno holds none =
-    let reported : (l.with_nodes && nat_lt 0 (length (all_bytes l.with_nodes es))) ≡ false =
+    let has_nodes : (l.with_nodes && nat_lt 0 (length (all_bytes l.with_nodes es))) ≡ false =
     sym (ap (λ n. l.with_nodes && nat_lt 0 n) holds.long) ∙ none in
-    rw reported (append-nil (error_bytes l.unique errno))
+    rw has_nodes (append-nil (error_bytes l.unique errno))
 
 all_bytes_more : (b : Bool) (es : List Brought) (e : Brought) → all_bytes b (es ++ e ∷ []) ≡ all_bytes b es ++ bytes_of b e
 all_bytes_more b [] e = append-nil (bytes_of b e)

@@ -24,7 +24,7 @@ use Rattle.server_meanings.specs.Serving.{Setting, setting}
 use Rattle.server_meanings.proofs.Serve.{ask_of, ended_ask, ended_fault}
 use Rattle.server_phases.specs.declared.asking.DecodedRequest.{DecodedRequest}
 use Rattle.server_phases.specs.declared.asking.DecodedRequest.TheVariants as asked
-use Rattle.server_phases.specs.Asking.{DecodedStandsIn, IsDecoded, IsAskedBy, HasAsker, ReportsData, StandsBehindHeader, reported_reply}
+use Rattle.server_phases.specs.Asking.{DecodedStandsIn, IsDecoded, IsAskedBy, HasAsker, ReportsData, StandsBehindHeader, decoded_reply}
 use Rattle.server_phases.specs.Waiting.{awaits_of, is_one_call}
 
 reply_by : (t : Bool) (page_size options room : ℕ) (reply bytes : List ℕ) → nat_lt room (length reply) ≡ t → 0 < length reply
@@ -33,15 +33,15 @@ reply_by true page_size options room reply bytes e some = rw e refl
 reply_by false page_size options room reply bytes e some = (rw e refl, some)
 
 -- an immediate reply, if it has room
-pub reply_reported : (page_size options room : ℕ) (reply bytes : List ℕ) → 0 < length reply →
-    IsDecoded (setting page_size options room) (Replies reply) bytes (reported_reply room reply)
-reply_reported page_size options room reply bytes some = reply_by (nat_lt room (length reply)) page_size options room reply bytes refl some
+pub reply_decoded : (page_size options room : ℕ) (reply bytes : List ℕ) → 0 < length reply →
+    IsDecoded (setting page_size options room) (Replies reply) bytes (decoded_reply room reply)
+reply_decoded page_size options room reply bytes some = reply_by (nat_lt room (length reply)) page_size options room reply bytes refl some
 
 -- the same of an error
-pub error_reported : (page_size options room unique errno : ℕ) (bytes : List ℕ)
-    → IsDecoded (setting page_size options room) (Replies (error_bytes unique errno)) bytes (reported_reply room (error_bytes unique errno))
-error_reported page_size options room unique errno bytes =
-    reply_reported page_size options room (error_bytes unique errno) bytes (omega (arith, length_error unique errno))
+pub error_decoded : (page_size options room unique errno : ℕ) (bytes : List ℕ)
+    → IsDecoded (setting page_size options room) (Replies (error_bytes unique errno)) bytes (decoded_reply room (error_bytes unique errno))
+error_decoded page_size options room unique errno bytes =
+    reply_decoded page_size options room (error_bytes unique errno) bytes (omega (arith, length_error unique errno))
 
 -- what has no names is decoded from any bytes
 pub behind_any : (bytes : List ℕ) (first : ℕ) (a : DecodedRequest) → ((request : List ℕ) (at : ℕ) → DecodedStandsIn request at a)
@@ -87,28 +87,28 @@ plain_by (value.BatchForget x counts) bytes c e p = absurd (plain_not _ c e refl
 plain_by call bytes c e p = (e, tt)
 
 -- one call, with the answer that it waits for
-pub call_is_reported : (s : Setting) (h : InHeader) (bytes : List ℕ) (c : FileCall) (call : made.FileCall) (room : ℕ) → s.room ≡ room
+pub call_is_decoded : (s : Setting) (h : InHeader) (bytes : List ℕ) (c : FileCall) (call : made.FileCall) (room : ℕ) → s.room ≡ room
     → CallShows h c → call_of [] call ≡ c
     → IsDecoded s (Asks (One h.unique c)) bytes
     (asked.Call call (record { unique = h.unique; context = context_of h; awaits = awaits_of (call_of [] call); room = room }))
-call_is_reported s h bytes c call room place shows e =
+call_is_decoded s h bytes c call room place shows e =
     let w = plain_by call bytes c e shows.0 in
     (One h.unique c, refl, w.0, w.1, (refl, ap awaits_of e, shows.1, single c shows.0), sym place)
 
 -- a fault
-pub fault_reported : (s : Setting) (m : Meaning) (e : Error) → m ≡ IsFault e → IsDecoded s m [] (asked.Fault e)
-fault_reported s m e h = rw h refl
+pub fault_decoded : (s : Setting) (m : Meaning) (e : Error) → m ≡ IsFault e → IsDecoded s m [] (asked.Fault e)
+fault_decoded s m e h = rw h refl
 
 -- no reply
-pub silence_reported : (s : Setting) (m : Meaning) → m ≡ IsSilent → IsDecoded s m [] asked.Silence
-silence_reported s m h = rw h refl
+pub silence_decoded : (s : Setting) (m : Meaning) → m ≡ IsSilent → IsDecoded s m [] asked.Silence
+silence_decoded s m h = rw h refl
 
 -- a reply with the version
-pub versions_reported : (page_size options room unique : ℕ) (bytes : List ℕ)
+pub versions_decoded : (page_size options room unique : ℕ) (bytes : List ℕ)
     → IsDecoded (setting page_size options room) (Replies (reply_bytes unique versions_bytes)) bytes
-    (reported_reply room (reply_bytes unique versions_bytes))
-versions_reported page_size options room unique bytes =
-    reply_reported page_size options room (reply_bytes unique versions_bytes) bytes (omega (arith, length_reply unique versions_bytes))
+    (decoded_reply room (reply_bytes unique versions_bytes))
+versions_decoded page_size options room unique bytes =
+    reply_decoded page_size options room (reply_bytes unique versions_bytes) bytes (omega (arith, length_reply unique versions_bytes))
 
 length_pairs : (n : ℕ) (bytes : List ℕ) → length (pairs_of n bytes) ≡ n
 unfolding pairs_of

@@ -11,7 +11,7 @@ use Rattle.fuse_values.specs.declared.answer.FileAnswer as made
 use Rattle.fuse_values.specs.declared.answer.FileAnswer.TheVariants as value
 use Rattle.fuse_values.specs.Answers.{answer_of}
 use Rattle.server_calls.specs.Requests.{is_silent, options_after, forget_entry, forget_node, entry_node}
-use Rattle.server_replies.specs.WholeReplies.{reply_bytes, error_bytes, reported_bytes}
+use Rattle.server_replies.specs.WholeReplies.{reply_bytes, error_bytes, bytes_of_answer}
 use Rattle.server_replies.proofs.ReplyLemmas.{length_reply}
 use Rattle.server_segments.specs.declared.error.Error.TheVariants.{EncodeMessage}
 use Rattle.server_meanings.specs.Grammar.{FileCommand, One, Starts, Lists}
@@ -74,9 +74,9 @@ data_long room unique options call bytes len e t =
 -- the reply to what a call waits for, without data
 abbrev pub Placed : Setting → Waiting → FileCall → FileAnswer → ServedMessage → Type 0
 Placed s w call a given =
-    replied s.room (call ∷ undone s.room (reported_bytes (reports_nothing w.awaits) w.unique a)
+    replied s.room (call ∷ undone s.room (bytes_of_answer (reports_nothing w.awaits) w.unique a)
     (back_by (brings_entry w.awaits) w.context a))
-    (leaves_options s.options w.awaits) (reported_bytes (reports_nothing w.awaits) w.unique a) ≡ given
+    (leaves_options s.options w.awaits) (bytes_of_answer (reports_nothing w.awaits) w.unique a) ≡ given
 
 -- a listing waits for no value of an answer but an error
 failed_list : (s : Setting) (w : Waiting) (unique : ℕ) (call : FileCall) (with_nodes : Bool) (size errno : ℕ) (given : ServedMessage)

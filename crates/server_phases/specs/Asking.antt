@@ -75,14 +75,14 @@ HasAsker request asked =
     IsAskedBy (context_of h) asked
 
 -- a reply without a call, or a fault if it doesn't fit
-abbrev pub reported_reply : (room : ℕ) → List ℕ → DecodedRequest
-reported_reply room reply =
+abbrev pub decoded_reply : (room : ℕ) → List ℕ → DecodedRequest
+decoded_reply room reply =
     if nat_lt room (length reply) then asked.Fault EncodeMessage else asked.Reply reply
 
 -- a request is decoded by a row of the grammar; bytes: those behind its header
-abbrev pub IsRowReported : (page_size options : ℕ) → InHeader → (room : ℕ) → (Given → Parser Meaning) →
+abbrev pub IsRowDecoded : (page_size options : ℕ) → InHeader → (room : ℕ) → (Given → Parser Meaning) →
     (bytes : List ℕ) → DecodedRequest → Type 0
-IsRowReported page_size options h room row bytes asked =
+IsRowDecoded page_size options h room row bytes asked =
     IsDecoded (setting page_size options room) (ended h.unique (row (given h options room) bytes))
     (drop 40 bytes) asked
 

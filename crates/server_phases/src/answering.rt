@@ -4,7 +4,7 @@ ghost use Rattle.std.specs.Prelude.{◌≡◌, ℕ, ◌+◌, ◌<◌, ◌^◌, �
 ghost use Rattle.std.specs.Prelude.{false, nat_lt, nat_le};
 ghost use Rattle.fuse_fs.specs.Calls.{FileCall, is_handle, Done, Bytes};
 ghost use Rattle.fuse_values.specs.Answers.{answer_of};
-ghost use Rattle.server_replies.specs.WholeReplies.{reply_bytes, reported_bytes};
+ghost use Rattle.server_replies.specs.WholeReplies.{reply_bytes, bytes_of_answer};
 ghost use Rattle.server_calls.specs.Requests.{entry_node};
 ghost use Rattle.server_meanings.specs.Serving.{replied, undone};
 ghost use Rattle.server_phases.specs.Answering.{ReportsBytes, takes, reports_nothing, fails_never};
@@ -57,8 +57,8 @@ pub struct RefusedAnswer {
 }
 
 // The reply to an answer without data, of a call that has a reply.
-fn reported_front(unique: u64, answer: FileAnswer) -> Front
-    ensures { result ≡ reported_bytes false unique (answer_of [] answer) }
+fn answer_front(unique: u64, answer: FileAnswer) -> Front
+    ensures { result ≡ bytes_of_answer false unique (answer_of [] answer) }
 {
     match answer {
         FileAnswer::Failed(error) => Front::error(unique, error),
@@ -82,7 +82,7 @@ fn reported_front(unique: u64, answer: FileAnswer) -> Front
 
 // The reply to an answer of a silent call: empty unless it failed.
 fn silent_front(unique: u64, answer: &FileAnswer) -> Front
-    ensures { result ≡ reported_bytes true unique (answer_of [] answer.now) }
+    ensures { result ≡ bytes_of_answer true unique (answer_of [] answer.now) }
 {
     match answer {
         FileAnswer::Failed(error) => Front::error(unique, *error),
@@ -92,13 +92,13 @@ fn silent_front(unique: u64, answer: &FileAnswer) -> Front
 
 // The front of the reply to an answer.
 fn front_of(waiting: &Waiting, answer: FileAnswer) -> Front
-    ensures { result ≡ reported_bytes (reports_nothing waiting.now.awaits) waiting.now.unique
+    ensures { result ≡ bytes_of_answer (reports_nothing waiting.now.awaits) waiting.now.unique
         (answer_of [] answer) }
 {
     if reports_nothing(&waiting.awaits) {
         silent_front(waiting.unique, &answer)
     } else {
-        reported_front(waiting.unique, answer)
+        answer_front(waiting.unique, answer)
     }
 }
 
@@ -170,10 +170,10 @@ pub(crate) fn placed(front: Front, room: usize, back: Option<(Context, u64)>) ->
 // The reply to an answer without data.
 pub(crate) fn answered_without_data(waiting: &Waiting, answer: FileAnswer) -> Answered
     ensures { let room = waiting.now.room in
-        let reported = reported_bytes (reports_nothing waiting.now.awaits) waiting.now.unique
+        let bytes = bytes_of_answer (reports_nothing waiting.now.awaits) waiting.now.unique
         (answer_of [] answer) in
         let back = back_by (brings_entry waiting.now.awaits) waiting.now.context (answer_of [] answer) in
-        (options : ℕ) (call : FileCall) → replied room (call ∷ undone room reported back) options reported
+        (options : ℕ) (call : FileCall) → replied room (call ∷ undone room bytes back) options bytes
         ≡ served_by (call ∷ forget_calls result.forget) options result.sent [] }
 {
     let back = back_of(waiting, &answer);

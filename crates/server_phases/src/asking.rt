@@ -15,7 +15,7 @@ ghost use Rattle.server_meanings.specs.Grammar.{known_options, meant, meaning, w
 ghost use Rattle.server_meanings.specs.Listings.{listing_of};
 ghost use Rattle.server_meanings.specs.Serving.{Setting, setting};
 ghost use Rattle.server_phases.specs.Asking.{IsDecoded, IsAskedBy, HasAsker, ReportsData, IsRequestFront};
-ghost use Rattle.server_phases.specs.Asking.{BeginsRecord, DecodedStandsIn, reported_reply};
+ghost use Rattle.server_phases.specs.Asking.{BeginsRecord, DecodedStandsIn, decoded_reply};
 
 use crate::waiting::{Awaits, Waiting, awaits_of};
 use bitflags::Flags;
@@ -59,7 +59,7 @@ pub enum AskedFront<'a> {
 
 /// A reply without a call, or the fault `EncodeMessage` if it doesn't fit.
 pub(crate) fn replied<'a>(room: usize, reply: Front) -> DecodedRequest<'a>
-    ensures { result ≡ reported_reply room reply }
+    ensures { result ≡ decoded_reply room reply }
 {
     if room < reply.bytes().len() {
         DecodedRequest::Fault(Error::EncodeMessage)
@@ -70,7 +70,7 @@ pub(crate) fn replied<'a>(room: usize, reply: Front) -> DecodedRequest<'a>
 
 /// The reply of an error, or the fault `EncodeMessage` if it doesn't fit.
 pub(crate) fn refused<'a>(head: &InHeader, error: Errno, room: usize) -> DecodedRequest<'a>
-    ensures reported { (page_size options : ℕ) (m : Meaning) (bytes : List ℕ)
+    ensures decoded { (page_size options : ℕ) (m : Meaning) (bytes : List ℕ)
         → m ≡ Replies (error_bytes head.now.unique error)
         → IsDecoded (setting page_size options room) m bytes result }
     ensures places { (request : List ℕ) (first : ℕ) → DecodedStandsIn request first result }
@@ -82,7 +82,7 @@ pub(crate) fn refused<'a>(head: &InHeader, error: Errno, room: usize) -> Decoded
 /// The call of a READ, in whose reply buffer the header fits.
 pub(crate) fn read_asked<'a>(head: &InHeader, request: &ReadIn, room: usize) -> DecodedRequest<'a>
     requires { 16 ≤ room }
-    ensures reported { (page_size options : ℕ) (bytes : List ℕ)
+    ensures decoded { (page_size options : ℕ) (bytes : List ℕ)
         → IsDecoded (setting page_size options room)
         (Asks (One head.now.unique (read_call head.now (room - 16) request.now))) bytes result }
     ensures places { (request : List ℕ) (first : ℕ) → DecodedStandsIn request first result }
@@ -125,7 +125,7 @@ pub(crate) fn entries_asked<'a>(
 ) -> DecodedRequest<'a>
     requires size { request.now.size ≤ 2 ^ 20 }
     requires enough { 16 ≤ room }
-    ensures reported { (page_size options : ℕ) (bytes : List ℕ)
+    ensures decoded { (page_size options : ℕ) (bytes : List ℕ)
         → IsDecoded (setting page_size options room)
         (Asks (Lists head.now.unique (listing_of with_nodes head.now request.now))) bytes result }
     ensures places { (request : List ℕ) (first : ℕ) → DecodedStandsIn request first result }
@@ -162,7 +162,7 @@ fn write_asked<'a>(
     len: usize,
     room: usize,
 ) -> DecodedRequest<'a>
-    ensures reported { (page_size options : ℕ) (bytes : List ℕ)
+    ensures decoded { (page_size options : ℕ) (bytes : List ℕ)
         → len ≡ length bytes
         → IsDecoded (setting page_size options room)
         (Asks (One head.now.unique (write_call head.now request.now bytes))) bytes result }
@@ -184,7 +184,7 @@ fn write_value<'a>(head: &InHeader, request: &WriteIn, len: usize) -> FileCall<'
     ensures places { (request : List ℕ) (first : ℕ) → CallStandsIn request first result }
     ensures data_apart { (bytes : List ℕ) → len ≡ length bytes → ReportsData bytes result }
 {
-    let reported = write_flags(request);
+    let bits = write_flags(request);
     FileCall::Write {
         context: Context::from(*head),
         node: head.nodeid,
@@ -192,16 +192,16 @@ fn write_value<'a>(head: &InHeader, request: &WriteIn, len: usize) -> FileCall<'
         len,
         size: request.size,
         offset: request.offset,
-        owner: reported.owner,
-        delayed: reported.delayed,
-        kill: reported.kill,
+        owner: bits.owner,
+        delayed: bits.delayed,
+        kill: bits.kill,
         flags: request.flags,
     }
 }
 
 /// A call, and the state for its answer.
 pub(crate) fn called<'a>(head: &InHeader, made: FileCall<'a>, room: usize) -> DecodedRequest<'a>
-    ensures reported { (s : Setting) (m : Meaning) (bytes : List ℕ) (c : call.FileCall)
+    ensures decoded { (s : Setting) (m : Meaning) (bytes : List ℕ) (c : call.FileCall)
         → s.room ≡ room
         → m ≡ Asks (One head.now.unique c)
         → CallShows head.now c
@@ -227,7 +227,7 @@ pub(crate) fn pairs_asked<'a>(
     counts: Placed<'a>,
     room: usize,
 ) -> DecodedRequest<'a>
-    ensures reported { (page_size options : ℕ) (m : Meaning) (bytes : List ℕ)
+    ensures decoded { (page_size options : ℕ) (m : Meaning) (bytes : List ℕ)
         → length counts.entry.bytes.now ≡ 16 * length (pairs_in counts.entry.bytes.now)
         → m ≡ Asks (One head.now.unique (batch_forget_call head.now (pairs_in counts.entry.bytes.now)))
         → IsDecoded (setting page_size options room) m bytes result }
@@ -253,7 +253,7 @@ pub(crate) fn init_asked<'a>(
     room: usize,
 ) -> DecodedRequest<'a>
     requires { bit_and capable.0 known_options ≡ capable.0 }
-    ensures reported { (s : Setting) (m : Meaning) (bytes : List ℕ)
+    ensures decoded { (s : Setting) (m : Meaning) (bytes : List ℕ)
         → s.room ≡ room
         → m ≡ Asks (Starts head.now.unique capable.0 readahead)
         → IsDecoded s m bytes result }
@@ -279,7 +279,7 @@ pub(crate) fn ask_write_row<'a>(
     room: usize,
     source: Flat<'a>,
 ) -> DecodedRequest<'a>
-    ensures reported { (page_size options : ℕ) (bytes : List ℕ)
+    ensures decoded { (page_size options : ℕ) (bytes : List ℕ)
         → BeginsRecord source.entry.bytes.now bytes
         → len ≡ length (drop 40 bytes)
         → IsDecoded (setting page_size options room)
@@ -299,7 +299,7 @@ pub(crate) fn ask_write_front<'a>(front: &'a [u8], len: usize, room: usize) -> D
     requires write { begins_a_write front.now ≡ true }
     requires front { 80 ≤ length front.now }
     requires len { 80 ≤ len }
-    ensures reported { (page_size options : ℕ) (request : List ℕ)
+    ensures decoded { (page_size options : ℕ) (request : List ℕ)
         → len ≡ length request
         → IsRequestFront front.now request
         → IsDecoded (setting page_size options room) (meaning options request room) (drop 80 request) result }
@@ -321,7 +321,7 @@ fn ask_write_head<'a>(
     source: Flat<'a>,
 ) -> DecodedRequest<'a>
     requires { is_write (opcode_of head.now.opcode) ≡ true }
-    ensures reported { (page_size options : ℕ) (bytes : List ℕ)
+    ensures decoded { (page_size options : ℕ) (bytes : List ℕ)
         → BeginsRecord source.entry.bytes.now bytes
         → len ≡ length (drop 40 bytes)
         → IsDecoded (setting page_size options room) (meant (given head.now options room) bytes)

@@ -6,7 +6,7 @@ ghost use Rattle.fuse_wire.specs.Opcodes.{opcode_of};
 ghost use Rattle.server_requests.specs.Fronts.{record_len};
 ghost use Rattle.server_meanings.specs.Grammar.{given, meant, row};
 ghost use Rattle.server_meanings.specs.Serving.{setting};
-ghost use Rattle.server_phases.specs.Asking.{IsAskedBy, IsRowReported, IsDecoded, StandsBehindHeader};
+ghost use Rattle.server_phases.specs.Asking.{IsAskedBy, IsRowDecoded, IsDecoded, StandsBehindHeader};
 
 use crate::asking::{DecodedRequest, refused};
 use crate::session::Session;
@@ -25,7 +25,7 @@ impl Session {
         room: usize,
         source: Flat<'a>,
     ) -> DecodedRequest<'a>
-        ensures reported { IsRowReported self.now.page_size self.now.options.0 head.now room
+        ensures decoded { IsRowDecoded self.now.page_size self.now.options.0 head.now room
             (λ g. row g opcode)
             source.entry.bytes.now result }
         ensures places { StandsBehindHeader source.entry.bytes.now
@@ -51,7 +51,7 @@ impl Session {
         room: usize,
         source: Flat<'a>,
     ) -> DecodedRequest<'a>
-        ensures reported { IsDecoded (setting self.now.page_size self.now.options.0 room)
+        ensures decoded { IsDecoded (setting self.now.page_size self.now.options.0 room)
             (meant (given head.now self.now.options.0 room) source.entry.bytes.now)
             (drop 40 source.entry.bytes.now) result }
         ensures places { StandsBehindHeader source.entry.bytes.now

@@ -7,7 +7,7 @@ ghost use Rattle.server_meanings.specs.Grammar.{row, forgets_asked, batch_forget
 ghost use Rattle.server_meanings.specs.Grammar.{read_row, write_row, ended, given};
 ghost use Rattle.server_meanings.specs.RowMeanings.{is_single};
 ghost use Rattle.server_meanings.specs.Serving.{setting};
-ghost use Rattle.server_phases.specs.Asking.{DecodedStandsIn, IsAskedBy, IsRowReported, IsDecoded};
+ghost use Rattle.server_phases.specs.Asking.{DecodedStandsIn, IsAskedBy, IsRowDecoded, IsDecoded};
 ghost use Rattle.server_phases.specs.Asking.{StandsBehindHeader};
 
 use crate::asking::{
@@ -37,7 +37,7 @@ impl Session {
         source: Flat<'a>,
     ) -> DecodedRequest<'a>
         requires { is_single opcode ≡ true }
-        ensures reported { IsRowReported self.now.page_size self.now.options.0 head.now room
+        ensures decoded { IsRowDecoded self.now.page_size self.now.options.0 head.now room
             (λ g. row g opcode)
             source.entry.bytes.now result }
         ensures places { StandsBehindHeader source.entry.bytes.now
@@ -60,7 +60,7 @@ impl Session {
         room: usize,
         source: Flat<'a>,
     ) -> DecodedRequest<'a>
-        ensures reported { (bytes : List ℕ) → IsDecoded (setting self.now.page_size self.now.options.0 room)
+        ensures decoded { (bytes : List ℕ) → IsDecoded (setting self.now.page_size self.now.options.0 room)
             (ended head.now.unique (forgets_asked pairs.count (given head.now self.now.options.0 room)
             source.entry.bytes.now)) bytes result }
         ensures places { (front : List ℕ) → length front ≡ 48
@@ -81,7 +81,7 @@ impl Session {
         room: usize,
         source: Flat<'a>,
     ) -> DecodedRequest<'a>
-        ensures reported { IsRowReported self.now.page_size self.now.options.0 head.now room batch_forget_row
+        ensures decoded { IsRowDecoded self.now.page_size self.now.options.0 head.now room batch_forget_row
             source.entry.bytes.now result }
         ensures places { StandsBehindHeader source.entry.bytes.now 48 result }
         ensures asker { IsAskedBy (context_of head.now) result }
@@ -102,7 +102,7 @@ impl Session {
         room: usize,
         source: Flat<'a>,
     ) -> DecodedRequest<'a>
-        ensures reported { IsRowReported self.now.page_size self.now.options.0 head.now room read_row
+        ensures decoded { IsRowDecoded self.now.page_size self.now.options.0 head.now room read_row
             source.entry.bytes.now result }
         ensures places { StandsBehindHeader source.entry.bytes.now 40 result }
         ensures asker { IsAskedBy (context_of head.now) result }
@@ -122,7 +122,7 @@ impl Session {
         room: usize,
         source: Flat<'a>,
     ) -> DecodedRequest<'a>
-        ensures reported { IsRowReported self.now.page_size self.now.options.0 head.now room
+        ensures decoded { IsRowDecoded self.now.page_size self.now.options.0 head.now room
             (listing_row with_nodes)
             source.entry.bytes.now result }
         ensures places { StandsBehindHeader source.entry.bytes.now 40 result }
@@ -143,7 +143,7 @@ impl Session {
         room: usize,
         source: Flat<'a>,
     ) -> DecodedRequest<'a>
-        ensures reported { IsRowReported self.now.page_size self.now.options.0 head.now room init_row
+        ensures decoded { IsRowDecoded self.now.page_size self.now.options.0 head.now room init_row
             source.entry.bytes.now result }
         ensures places { StandsBehindHeader source.entry.bytes.now 40 result }
         ensures asker { IsAskedBy (context_of head.now) result }
@@ -164,7 +164,7 @@ impl Session {
         room: usize,
         source: Flat<'a>,
     ) -> DecodedRequest<'a>
-        ensures reported { IsRowReported self.now.page_size self.now.options.0 head.now room write_row
+        ensures decoded { IsRowDecoded self.now.page_size self.now.options.0 head.now room write_row
             source.entry.bytes.now result }
         ensures places { StandsBehindHeader source.entry.bytes.now 40 result }
         ensures asker { IsAskedBy (context_of head.now) result }

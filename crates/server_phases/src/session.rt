@@ -68,7 +68,7 @@ impl Session {
     /// Decodes a request with a reply buffer of `room` bytes: returns its one call, or its result without a
     /// call. Names and values of the call are borrowed from the request. It allocates nothing.
     pub fn ask<'a>(&self, request: &'a [u8], room: usize) -> DecodedRequest<'a>
-        ensures reported { IsDecoded (setting self.now.page_size self.now.options.0 room)
+        ensures decoded { IsDecoded (setting self.now.page_size self.now.options.0 room)
             (meaning self.now.options.0 request.now room) (drop 80 request.now) result }
         ensures places { DecodedStandsIn request.now (first_name_at self.now.options.0 request.now) result }
         ensures asker { HasAsker request.now result }
@@ -85,7 +85,7 @@ impl Session {
     /// returns `More`. In the call of a WRITE, `size` is from the record and `len` is the number of
     /// data bytes: they may differ.
     pub fn ask_front<'a>(&self, front: &'a [u8], len: usize, room: usize) -> AskedFront<'a>
-        ensures reported { (request : List ℕ)
+        ensures decoded { (request : List ℕ)
             → len ≡ length request
             → IsRequestFront front.now request
             → IsDecodedByFront (setting self.now.page_size self.now.options.0 room)

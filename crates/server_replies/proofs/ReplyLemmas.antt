@@ -7,7 +7,7 @@ use Rattle.vm_values.specs.Fields.{field_bytes, spelled}
 use Rattle.fuse_wire.specs.Records.{out_header}
 use Rattle.fuse_wire.specs.declared.replies.OutHeader.{OutHeader}
 use Rattle.fuse_fs.specs.Calls.{FileAnswer, Failed, Bytes}
-use Rattle.server_replies.specs.WholeReplies.{reply_bytes, error_bytes, whole_or_none, reported_bytes, reported_data}
+use Rattle.server_replies.specs.WholeReplies.{reply_bytes, error_bytes, whole_or_none, bytes_of_answer, data_of_answer}
 use Rattle.server_segments.specs.declared.error.Error.TheVariants.{EncodeMessage}
 
 pub length_header : (h : OutHeader) → length (spelled (out_header h)) ≡ 16
@@ -31,22 +31,22 @@ pub sent_fits : (room : ℕ) (bytes : List ℕ) → length bytes ≤ room → wh
 sent_fits room bytes h = rw (le-ltb room (length bytes) h) refl
 
 -- the reply to an answer that says an error
-pub failure_reported : (silent : Bool) (unique errno : ℕ) (answer : FileAnswer) → answer ≡ Failed errno →
-    reported_bytes silent unique answer ≡ error_bytes unique errno
-failure_reported silent unique errno answer e = rw e refl
+pub failure_bytes : (silent : Bool) (unique errno : ℕ) (answer : FileAnswer) → answer ≡ Failed errno →
+    bytes_of_answer silent unique answer ≡ error_bytes unique errno
+failure_bytes silent unique errno answer e = rw e refl
 
 none_long : 2 ^ 32 ≤ 16 → ⊥
 none_long h = omega (arith, h)
 
 -- data whose length no header tells
-pub reported_long :
-    (room : ℕ) (silent : Bool) (unique : ℕ) (answer : FileAnswer) → room < 2 ^ 32 → 2 ^ 32 ≤ 16 + length (reported_data silent answer)
-    → whole_or_none room (reported_bytes silent unique answer) ≡ Err EncodeMessage
-reported_long room false unique (Bytes bytes) r h =
+pub answer_long :
+    (room : ℕ) (silent : Bool) (unique : ℕ) (answer : FileAnswer) → room < 2 ^ 32 → 2 ^ 32 ≤ 16 + length (data_of_answer silent answer)
+    → whole_or_none room (bytes_of_answer silent unique answer) ≡ Err EncodeMessage
+answer_long room false unique (Bytes bytes) r h =
     let long : 2 ^ 32 ≤ 16 + length bytes = h in
     sent_long room (reply_bytes unique bytes) (omega (arith, length_reply unique bytes, r, long))
-reported_long room true unique (Bytes bytes) r h = absurd (none_long h)
-reported_long room silent unique answer r h = absurd (none_long h)
+answer_long room true unique (Bytes bytes) r h = absurd (none_long h)
+answer_long room silent unique answer r h = absurd (none_long h)
 
 -- a header and a record behind it
 pub record_put : (unique len : ℕ) (front back body : List ℕ)

@@ -39,14 +39,14 @@ body_bytes (Offset n) = spelled (lseek_out (lseek_out_of n))
 body_bytes _ = []
 
 -- the reply to an answer; a silent call has none if it succeeds
-abbrev pub reported_bytes : (silent : Bool) → (unique : ℕ) → FileAnswer → List ℕ
-reported_bytes silent unique (Failed errno) = error_bytes unique errno
-reported_bytes silent unique answer = if silent then [] else reply_bytes unique (body_bytes answer)
+abbrev pub bytes_of_answer : (silent : Bool) → (unique : ℕ) → FileAnswer → List ℕ
+bytes_of_answer silent unique (Failed errno) = error_bytes unique errno
+bytes_of_answer silent unique answer = if silent then [] else reply_bytes unique (body_bytes answer)
 
 -- the data of an answer, behind the front of its reply
-abbrev pub reported_data : (silent : Bool) → FileAnswer → List ℕ
-reported_data silent (Bytes bytes) = if silent then [] else bytes
-reported_data silent _ = []
+abbrev pub data_of_answer : (silent : Bool) → FileAnswer → List ℕ
+data_of_answer silent (Bytes bytes) = if silent then [] else bytes
+data_of_answer silent _ = []
 
 -- struct fuse_init_out of version 7.38 with these values; the options are in `flags` and `flags2`
 abbrev pub init_record : (readahead options max_background congestion max_write gran max_pages : ℕ) → InitOut

@@ -3,8 +3,8 @@
 ghost use Rattle.std.specs.Prelude.{◌≡◌, ◌+◌, ◌<◌, ◌^◌, ◌++◌, [], length, Ok, false};
 ghost use Rattle.vm_values.specs.Fields.{spelled};
 ghost use Rattle.fuse_wire.specs.Records.{entry_out, open_out};
-ghost use Rattle.server_replies.specs.WholeReplies.{with_written, whole_or_none, reported_bytes};
-ghost use Rattle.server_replies.specs.WholeReplies.{reported_data};
+ghost use Rattle.server_replies.specs.WholeReplies.{with_written, whole_or_none, bytes_of_answer};
+ghost use Rattle.server_replies.specs.WholeReplies.{data_of_answer};
 ghost use Rattle.server_replies.specs.WholeReplies.{LeavesWriter};
 ghost use Rattle.server_segments.specs.Errors.{lacks_memory};
 
@@ -21,14 +21,14 @@ use vm_values::ByteValued;
 pub trait AsFront: GoodAnswer + Drop {
     /// The front of the reply, and its data. The reply's length must fit the header's 32 bits.
     fn parts(&self, unique: u64) -> (Front, &[u8])
-        ensures data { result.1.now ≡ reported_data Self.silent (Self.said (Ok self.now)) }
-        ensures reported { 16 + length result.1.now < 2 ^ 32
-            → result.0 ++ result.1.now ≡ reported_bytes Self.silent unique (Self.said (Ok self.now)) };
+        ensures data { result.1.now ≡ data_of_answer Self.silent (Self.said (Ok self.now)) }
+        ensures bytes { 16 + length result.1.now < 2 ^ 32
+            → result.0 ++ result.1.now ≡ bytes_of_answer Self.silent unique (Self.said (Ok self.now)) };
 
     /// The reply of an answer without data: its front alone.
     final fn front(&self, unique: u64) -> Front
-        requires { reported_data Self.silent (Self.said (Ok self.now)) ≡ [] }
-        ensures { result ≡ reported_bytes Self.silent unique (Self.said (Ok self.now)) }
+        requires { data_of_answer Self.silent (Self.said (Ok self.now)) ≡ [] }
+        ensures { result ≡ bytes_of_answer Self.silent unique (Self.said (Ok self.now)) }
     {
         let (front, _data) = self.parts(unique);
         front
@@ -46,7 +46,7 @@ pub fn reply_answer<A: AsFront>(
     requires fresh { w.old.written ≡ [] }
     requires room { w.old.free < 2 ^ 32 }
     ensures sent { with_written result w.new.written
-        ≡ whole_or_none w.old.free (reported_bytes A.silent unique (A.said answer)) }
+        ≡ whole_or_none w.old.free (bytes_of_answer A.silent unique (A.said answer)) }
     ensures writer { LeavesWriter result w.old w.new }
     ensures memory { lacks_memory result ≡ false }
 {

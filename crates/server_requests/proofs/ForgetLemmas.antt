@@ -86,15 +86,15 @@ pairs_there n bytes h l =
     rw all.1 (lt-ltb 0 (length (pairs_of n bytes)) some)
 
 -- the pairs of the bytes that hold them alone
-pairs_preserved : (n : ℕ) (bytes : List ℕ) → pairs_of n (take (n * 16) bytes) ≡ pairs_of n bytes
+pairs_kept : (n : ℕ) (bytes : List ℕ) → pairs_of n (take (n * 16) bytes) ≡ pairs_of n bytes
 unfolding pairs_of
-pairs_preserved zero bytes = refl
-pairs_preserved (suc n) bytes =
+pairs_kept zero bytes = refl
+pairs_kept (suc n) bytes =
     let front : take 16 (take (suc n * 16) bytes) ≡ take 16 bytes = take-take 16 (suc n * 16) bytes (omega arith) in
     let more : suc n * 16 ≡ 16 + n * 16 = omega arith in
     let rest : drop 16 (take (suc n * 16) bytes) ≡ take (n * 16) (drop 16 bytes) =
     ap (λ k. drop 16 (take k bytes)) more ∙ drop-take 16 (n * 16) bytes in
-    rw (front, rest, pairs_preserved n (drop 16 bytes)) refl
+    rw (front, rest, pairs_kept n (drop 16 bytes)) refl
 
 pub pairs_read :
     (n : ℕ) (bytes : List ℕ) → n * 16 ≤ length bytes → value_of (many n forget_pair bytes) ≡ Ok (pairs_in (take (n * 16) bytes))
@@ -102,7 +102,7 @@ pairs_read n bytes h =
     let all = many_there n bytes h in
     let long : length (take (n * 16) bytes) ≡ n * 16 = length-take-le (n * 16) bytes h in
     let count : length (take (n * 16) bytes) / 16 ≡ n = rw long (omega arith) in
-    ap value_of all.1 ∙ ap Ok (sym (rw count (pairs_preserved n bytes)))
+    ap value_of all.1 ∙ ap Ok (sym (rw count (pairs_kept n bytes)))
 
 pub pairs_cut : (n : ℕ) (bytes : List ℕ) → length bytes < n * 16 → value_of (many n forget_pair bytes) ≡ Err (Faults DecodeMessage)
 pairs_cut n bytes h = rw (many_few n bytes h) refl

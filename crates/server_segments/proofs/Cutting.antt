@@ -130,20 +130,20 @@ pub behind_ends : (ns whole : List ℕ) (part : ℕ) → part ≡ 0 → past par
 behind_ends ns whole part z w = sym (ap (λ i. past i (filled ns)) z ∙ past_zero ns) ∙ w
 
 -- a reader that is cut in its first segment
-pub cut_before : (segment : List ℕ) (later preserved : List (Bor (List ℕ))) (offset : ℕ) (segments : List ℕ) →
+pub cut_before : (segment : List ℕ) (later kept : List (Bor (List ℕ))) (offset : ℕ) (segments : List ℕ) →
     filled (length segment ∷ segment_lengths later) ≡ segments → offset ≤ length segment →
-    preserved ≡ [] → filled (length (take offset segment) ∷ segment_lengths preserved) ≡ up_to offset segments
-cut_before segment later preserved offset segments v le k =
+    kept ≡ [] → filled (length (take offset segment) ∷ segment_lengths kept) ≡ up_to offset segments
+cut_before segment later kept offset segments v le k =
     ap (λ (s : List (Bor (List ℕ))). filled (length (take offset segment) ∷ segment_lengths s)) k
     ∙ ap (λ (i : ℕ). filled (i ∷ [])) (length-take-le offset segment le)
     ∙ sym (up_to_first offset (length segment) (segment_lengths later) le) ∙ ap (up_to offset) v
 
-pub cut_behind : (segment tail : List ℕ) (later preserved : List (Bor (List ℕ))) (offset : ℕ) (segments result : List ℕ) →
+pub cut_behind : (segment tail : List ℕ) (later kept : List (Bor (List ℕ))) (offset : ℕ) (segments result : List ℕ) →
     filled (length segment ∷ segment_lengths later) ≡ segments →
-    offset ≤ length segment → preserved ≡ later → length tail ≡ length segment - offset
-    → result ≡ filled (length tail ∷ segment_lengths preserved) →
+    offset ≤ length segment → kept ≡ later → length tail ≡ length segment - offset
+    → result ≡ filled (length tail ∷ segment_lengths kept) →
     result ≡ past offset segments
-cut_behind segment tail later preserved offset segments result v le k l r =
+cut_behind segment tail later kept offset segments result v le k l r =
     r ∙ ap (λ (s : List (Bor (List ℕ))). filled (length tail ∷ segment_lengths s)) k
     ∙ ap (λ (i : ℕ). filled (i ∷ segment_lengths later)) l
     ∙ sym (past_first offset (length segment) (segment_lengths later) le) ∙ ap (past offset) v

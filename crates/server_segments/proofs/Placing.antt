@@ -34,9 +34,9 @@ before_is ns after i used at is all e le a =
     a ∙ sym (up_to_at ns i used all is.there is.before_end end) ∙ ap (λ k. up_to k ns) e
 
 -- a place before a cut stays
-pub preserved_before : (ns after : List ℕ) (i used p q : ℕ) → IsIn ns i used → p ≤ i → after ≡ take i ns ++ filled (used ∷ []) →
+pub kept_before : (ns after : List ℕ) (i used p q : ℕ) → IsIn ns i used → p ≤ i → after ≡ take i ns ++ filled (used ∷ []) →
     bytes_before after p q ≡ bytes_before ns p q
-preserved_before ns after i used p q is le a =
+kept_before ns after i used p q is le a =
     let long : p ≤ length (take i ns) = omega (arith, length-take-le i ns is.there, le) in
     ap (λ s. sum s + q) (ap (take p) a ∙ take-append-le p (take i ns) (filled (used ∷ [])) long ∙ take-take p i ns le)
 

@@ -39,14 +39,10 @@ pub enum Call {
 impl Call {
     /// A look-up of a name, which keeps the name's first 16 bytes.
     pub fn lookup(parent: u64, name: &[u8]) -> Call {
-        let mut preserved = ArrayVec::new();
-        preserved
-            .try_extend_from_slice(&name[..name.len().min(MOST_NAME_BYTES)])
+        let mut kept = ArrayVec::new();
+        kept.try_extend_from_slice(&name[..name.len().min(MOST_NAME_BYTES)])
             .unwrap();
-        Call::Lookup {
-            parent,
-            name: preserved,
-        }
+        Call::Lookup { parent, name: kept }
     }
 }
 

@@ -3,7 +3,7 @@
 ghost use Rattle.std.specs.Prelude.{◌≡◌, ◌<◌, ◌^◌, [], false, option_map};
 ghost use Rattle.fuse_fs.specs.Calls.{FileRun};
 ghost use Rattle.server_segments.specs.Errors.{lacks_memory};
-ghost use Rattle.server_replies.specs.WholeReplies.{with_written, whole_or_none, reported_bytes};
+ghost use Rattle.server_replies.specs.WholeReplies.{with_written, whole_or_none, bytes_of_answer};
 ghost use Rattle.server_replies.specs.WholeReplies.{LeavesWriter};
 ghost use Rattle.server_calls.specs.Requests.{entry_node, forget_node};
 ghost use Rattle.server_meanings.specs.Serving.{undone, all_done};
@@ -41,9 +41,9 @@ impl<F: FileSystem> Server<F> {
         requires fresh { w.old.written ≡ [] }
         requires room { w.old.free < 2 ^ 32 }
         ensures sent { with_written result w.new.written
-            ≡ whole_or_none w.old.free (reported_bytes A.silent unique (A.said answer)) }
+            ≡ whole_or_none w.old.free (bytes_of_answer A.silent unique (A.said answer)) }
         ensures back { FileRun F.may self.old.fs
-            (all_done (undone w.old.free (reported_bytes A.silent unique (A.said answer))
+            (all_done (undone w.old.free (bytes_of_answer A.silent unique (A.said answer))
             (forget_node context (entry_node (A.said answer)))))
             self.new.fs }
         ensures writer { LeavesWriter result w.old w.new }

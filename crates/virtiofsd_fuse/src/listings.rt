@@ -41,7 +41,7 @@ impl<F: FileSystem> Server<F> {
             ++ (node_bytes (numbered F.Inode.number node) ++ dirent_bytes (listed entry.now))) }
         ensures free { OnOk result (w.new.free + entry_len true (length entry.now.name.now) ≡ w.old.free) }
         ensures same { OnErr result (w.new ≡ w.old) }
-        ensures preserved { OnOk result (self.new.fs ≡ self.old.fs) }
+        ensures kept { OnOk result (self.new.fs ≡ self.old.fs) }
         ensures undone { OnErr result (F.may self.old.fs
             (forget_lookup (context_of head.now) (F.Inode.number node.inode)) Done self.new.fs) }
         ensures room { length w.new.written + w.new.free ≡ length w.old.written + w.old.free }

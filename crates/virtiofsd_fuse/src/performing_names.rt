@@ -21,14 +21,14 @@ use std::alloc::Global;
 macro_rules! performed {
     ($server:ident, $unique:ident, $w:ident, $call:expr,
         entries { $($name:ident { $($field:ident),* } $received:ident $method:ident($($given:expr),*);)* }
-        others { $($other:ident { $($part:ident),* } $came:ident $asked:ident($($reported:expr),*);)* }) => {
+        others { $($other:ident { $($part:ident),* } $came:ident $asked:ident($($passed:expr),*);)* }) => {
         match $call {
             $(FileCall::$name { context, $($field),* } => {
                 let answer = $received($server.fs.$method(context, $($given),*));
                 $server.reply_entry(context, $unique, answer, $w)
             })*
             $(FileCall::$other { context, $($part),* } => {
-                let answer = $came($server.fs.$asked(context, $($reported),*));
+                let answer = $came($server.fs.$asked(context, $($passed),*));
                 reply_answer($w, $unique, answer)
             })*
             _ => unreachable!(),

@@ -3,29 +3,29 @@ use Rattle.std.proofs.Common.{◌≡◌, ℕ, Bool, List, [], ◌∷◌, ◌++�
 use Rattle.server_phases.specs.Gathering.{Brought}
 use Rattle.plain_machine.specs.Step.{Calls}
 use Rattle.live_machine.specs.Live.{InFlightChain, after_push}
-use Rattle.fs_chain.specs.Holds.{EndsPush, Machine, live_of}
-use Rattle.fs_chain.specs.HoldsListings.{AddingIs, AddsEntry, HoldsListing, ListingIsHeld}
+use Rattle.fs_chain.specs.Holds.{EndsPushInRun, RunState, live_of}
+use Rattle.fs_chain.specs.HoldsListings.{AddingIs, AddsEntryInRun, HoldsListing, ListingIsHeld}
 use Rattle.fs_chain.specs.Together.{FindsOwn, KeepsOthers, LeavesOthers, Together}
 use Rattle.fs_chain.specs.declared.chain_handle.ChainHandle.{ChainHandle}
-use Rattle.fs_chain.specs.declared.listing.Added.{Added}
-use Rattle.fs_chain.specs.declared.listing.Added.TheVariants as added
+use Rattle.fs_chain.specs.declared.listing.AddOutcome.{AddOutcome}
+use Rattle.fs_chain.specs.declared.listing.AddOutcome.TheVariants as added
 use Rattle.fs_chain.specs.declared.queue.QueueState.{QueueState}
 use Rattle.worked_callers.specs.AmidListings.{PushesAmid, own}
 
 -- an entry that was added
-added_one : (old new : ChainHandle) (list list' : List ℕ) (e : Brought) (reported : Added) → AddsEntry old new list list' e reported
-    → reported ≡ added.In → (page_size : ℕ) (c : InFlightChain) (es : List Brought) (calls : Calls)
+added_one : (old new : ChainHandle) (list list' : List ℕ) (e : Brought) (result : AddOutcome) → AddsEntryInRun old new list list' e result
+    → result ≡ added.In → (page_size : ℕ) (c : InFlightChain) (es : List Brought) (calls : Calls)
     → HoldsListing page_size c es calls list old → HoldsListing page_size c (es ++ e ∷ []) calls list' new
-unfolding AddsEntry
-added_one old new list list' e reported adds is page_size c es calls held =
-    subst (λ (r : Added). AddingIs page_size c es calls list list' e new r) is (adds page_size c es calls held)
+unfolding AddsEntryInRun
+added_one old new list list' e result adds is page_size c es calls held =
+    subst (λ (r : AddOutcome). AddingIs page_size c es calls list list' e new r) is (adds page_size c es calls held)
 
 pub push_amid : (old mid new was now : ChainHandle) (q q' : QueueState) (list between list' : List ℕ) (one other : Brought)
-    (seen : List ℕ) (first second : Added) (notice : Bool)
+    (seen : List ℕ) (first second : AddOutcome) (notice : Bool)
     → FindsOwn → KeepsOthers → LeavesOthers → ListingIsHeld
-    → AddsEntry old mid list between one first → EndsPush was q q' seen notice → AddsEntry mid new between list' other second
+    → AddsEntryInRun old mid list between one first → EndsPushInRun was q q' seen notice → AddsEntryInRun mid new between list' other second
     → first ≡ added.In → second ≡ added.In → PushesAmid old new was now q q' list list' one other seen notice
-unfolding EndsPush
+unfolding EndsPushInRun
 push_amid old mid new was now q q' list between list' one other seen first second notice finds keeps leaves is_held adds pushes adds_more
     is_in is_in_too s c d es calls x last all lists there proceeds =
     let has_one = added_one old mid list between one first adds is_in s.page_size c es calls lists in
@@ -36,7 +36,7 @@ push_amid old mid new was now q q' list between list' one other seen first secon
     (is_held s.page_size c (es ++ one ∷ []) calls between mid has_one) in
     let own_other = finds s (mid ∷ was ∷ []) (own 0 c ∷ []) [] 1 was d amid refl in
     let happens = pushes s (c ∷ []) [] d x last own_other.0 there own_other.1 proceeds in
-    let after : Machine = after_push s (c ∷ []) [] d (live_of q) in
+    let after : RunState = after_push s (c ∷ []) [] d (live_of q) in
     let left : Together after (mid ∷ now ∷ []) (own 0 c ∷ []) =
     leaves s after (mid ∷ was ∷ []) (own 0 c ∷ []) [] 1 now d amid refl refl in (
       happens.0,

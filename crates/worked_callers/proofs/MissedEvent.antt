@@ -67,14 +67,14 @@ unmapped_event q event = (rw event (rw (none_mapped (used_event_at q.layout)) re
 
 pub lacking : (old new : ChainHandle) (q q' : QueueState) (came : outcome.LoadOutcome) (e : QueueError) → old.state ≡ at.Free
     → q.stopped ≡ None → event_fault (places_in old.regions) q ≡ Some e → ProceedsSo old q [] came new q'
-    → (reported : walked.PopOutcome) × (came ≡ outcomes.On reported)
-    × LacksEvents e (event_miss (places_in old.regions) q) old new q q' reported × (new.part.items ≡ [])
+    → (result : walked.PopOutcome) × (came ≡ outcomes.On result)
+    × LacksEvents e (event_miss (places_in old.regions) q) old new q q' result × (new.part.items ≡ [])
 lacking old new q q' outcomes.Part e free running fault call = absurd (begins_none old q [] new q' free call)
-lacking old new q q' (outcomes.On reported) e free running fault call =
-    let begins : BeginsPop old new q q' reported =
-    subst (λ (st : state.ChainState). WalksFrom st (whole old []) old new q q' reported) free call.4 in
-    let unless : BeginsUnless None old new q q' reported =
-    subst (λ (s : Option QueueError). BeginsUnless s old new q q' reported) running begins in
-    let lacks : BeginsWhere (Some e) old new q q' reported =
-    subst (λ (f : Option QueueError). BeginsWhere f old new q q' reported) fault unless in
-    (reported, refl, lacks, call.1)
+lacking old new q q' (outcomes.On result) e free running fault call =
+    let begins : BeginsPop old new q q' result =
+    subst (λ (st : state.ChainState). WalksFrom st (whole old []) old new q q' result) free call.4 in
+    let unless : BeginsUnless None old new q q' result =
+    subst (λ (s : Option QueueError). BeginsUnless s old new q q' result) running begins in
+    let lacks : BeginsWhere (Some e) old new q q' result =
+    subst (λ (f : Option QueueError). BeginsWhere f old new q q' result) fault unless in
+    (result, refl, lacks, call.1)

@@ -8,10 +8,10 @@ use Rattle.fs_regions.specs.Walks.{Loaded}
 use Rattle.fs_queue.specs.Returning.{Store}
 use Rattle.fs_queue.specs.ReturningView.{stores_of}
 use Rattle.fs_chain.specs.Events.{notification_store, store_of}
-use Rattle.fs_chain.specs.Holds.{EndsBy, IsQueue, Machine}
-use Rattle.fs_chain.specs.Loads.{RefusesWalk}
-use Rattle.fs_chain.specs.Orders.{begin_error, give_up_error, is_out, load_len, return_error, walk_error}
-use Rattle.fs_chain.specs.Pushes.{IfHasReply, PushesBy}
+use Rattle.fs_chain.specs.Holds.{EndsBy, IsRunQueue, RunState}
+use Rattle.fs_chain.specs.Loads.{RefusesAPop}
+use Rattle.fs_chain.specs.Orders.{begin_error, give_up_error, is_out, load_len, push_refusal, walk_error}
+use Rattle.fs_chain.specs.Pushes.{IfReplied, PushesBy}
 use Rattle.fs_chain.specs.Queues.{gave, gave_up}
 use Rattle.fs_chain.specs.declared.error.ChainError.TheVariants as error
 use Rattle.fs_chain.specs.declared.notifications.NotificationStore.{NotificationStore}
@@ -60,8 +60,8 @@ SleepsSo before after loaded s =
     × ActsTo before s (Wishes ∷ WishIsThere ∷ SleepsNow ∷ [])
     (after_act ways (after_act ways (after_act ways s Wishes) WishIsThere) SleepsNow) after index
 
-pub sleeps_so : RearmsByStore → FindsNoneByPop → (m : Machine) (i : ℕ) (before after : QueueState) (loaded : Loaded) (new : ChainHandle)
-    → HasU16Numbers before → IsQueue m i before → EndsBy m i before after loaded new shows.Idle → (s : ThreadedQueue)
+pub sleeps_so : RearmsByStore → FindsNoneByPop → (m : RunState) (i : ℕ) (before after : QueueState) (loaded : Loaded) (new : ChainHandle)
+    → HasU16Numbers before → IsRunQueue m i before → EndsBy m i before after loaded new shows.Idle → (s : ThreadedQueue)
     → IsModelOf before s → s.holder ≡ Walker → s.index < 2 ^ 16 → SleepsSo before after loaded s
 sleeps_so asks finds m i before after loaded new counted there ends s of walker fits =
     let ways = ways_of before in
@@ -75,17 +75,17 @@ TakesSo before after loaded s =
     (index : ℕ) × IsIndex loaded index
     × ActsTo before s (Loads ∷ TakesOne ∷ []) (after_act (ways_of before) (after_act (ways_of before) s Loads) TakesOne) after index
 
-pub takes_so : TakesByPop → (m : Machine) (i : ℕ) (before after : QueueState) (loaded : Loaded) (new : ChainHandle)
-    (reported : walked.PopOutcome) → HasU16Numbers before → HasPopped reported → IsQueue m i before
-    → EndsBy m i before after loaded new reported → (s : ThreadedQueue) → IsModelOf before s → s.holder ≡ Walker
+pub takes_so : TakesByPop → (m : RunState) (i : ℕ) (before after : QueueState) (loaded : Loaded) (new : ChainHandle)
+    (result : walked.PopOutcome) → HasU16Numbers before → HasPopped result → IsRunQueue m i before
+    → EndsBy m i before after loaded new result → (s : ThreadedQueue) → IsModelOf before s → s.holder ≡ Walker
     → TakesSo before after loaded s
-takes_so law m i before after loaded new reported counted popped there ends s of walker =
+takes_so law m i before after loaded new result counted popped there ends s of walker =
     let index_loaded : ThreadedQueue = after_act (ways_of before) s Loads in
-    let t = law m i before after loaded new reported index_loaded counted popped there ends of walker in
+    let t = law m i before after loaded new result index_loaded counted popped there ends of walker in
     (t.0, t.1, λ is. ((ap walks walker, ((t.2 is).0, refl)), (t.2 is).1))
 
 pub drops_so : DropIsAnAct → (st : state.ChainState) (q last : QueueState) → HasU16Numbers q → give_up_error st q ≡ None
-    → last ≡ (if is_out st then gave_up q else q) → (out : InFlight) (s : ThreadedQueue) → st ≡ at.Taken out → IsModelOf q s
+    → last ≡ (if is_out st then gave_up q else q) → (out : InFlight) (s : ThreadedQueue) → st ≡ at.Popped out → IsModelOf q s
     → s.holder ≡ Walker → IsTrue (may_act (ways_of q) s DropsOne) × IsModelOf last (after_act (ways_of q) s DropsOne)
 drops_so law st q last counted clear left out s is of walker =
     let d = law q out s counted (subst (λ (t : state.ChainState). give_up_error t q ≡ None) is clear) of walker in
@@ -94,7 +94,7 @@ drops_so law st q last counted clear left out s is of walker =
 
 -- a thread reports the drop
 pub drop_reported : DropReports → (st : state.ChainState) (q last : QueueState) → HasU16Numbers q → give_up_error st q ≡ None
-    → last ≡ (if is_out st then gave_up q else q) → (out : InFlight) (w : World) → st ≡ at.Taken out → IsWorldOf q w
+    → last ≡ (if is_out st then gave_up q else q) → (out : InFlight) (w : World) → st ≡ at.Popped out → IsWorldOf q w
     → IsTrue (nat_lt 0 w.out) × IsWorldOf last (record w { position = kicks.back w.position 1; out = w.out - 1 })
 drop_reported law st q last counted clear left out w is of =
     let d = law q out w counted (subst (λ (t : state.ChainState). give_up_error t q ≡ None) is clear) of in
@@ -103,7 +103,7 @@ drop_reported law st q last counted clear left out w is of =
 
 -- ---- as many as may be
 
-pub full_so : (w : ChainHandle) (q : QueueState) → w.state ≡ at.Free → RefusesWalk w q [] error.ChainInFlight →
+pub full_so : (w : ChainHandle) (q : QueueState) → w.state ≡ at.Free → RefusesAPop w q [] error.ChainInFlight →
     begin_error q 0 ≡ Some error.ChainInFlight
 full_so w q free why = elim why [
   | inl due ↦ subst (λ (st : state.ChainState). walk_error st q (if load_len st == 0 then 0 else load_len st)
@@ -115,13 +115,13 @@ full_so w q free why = elim why [
 
 -- the stores of a push publish one chain
 pub published_so : PublishesByStore → (st : state.ChainState) (q : QueueState) (len : ℕ) (s : PushStores) (last : QueueState)
-    → return_error st q len ≡ None → IfHasReply st (λ out reply. PushesBy q out reply s) → last.next_used ≡ (gave q).next_used
+    → push_refusal st q len ≡ None → IfReplied st (λ out reply. PushesBy q out reply s) → last.next_used ≡ (gave q).next_used
     → (u : NotifyState) → u.published ≡ q.next_used
     → (let published = (kicks.after (rules_of q) u (kicks.Publishes 1)).published in
     (first : List Store) × (index : Store)
     × (stores_of s.used ≡ first ++ index ∷ [])
     × (index.bytes ≡ to_le_bytes w16 published)
     × (last.next_used ≡ published))
-published_so law (at.HasReply out reply) q len s last can by last_is u same =
+published_so law (at.Replied out reply) q len s last can by last_is u same =
     let made = law q out reply s u by same in (made.0, _, made.1, refl, last_is ∙ made.2)
 published_so law _ q len s last can by last_is u same = absurd (cc)

@@ -13,7 +13,7 @@ use Rattle.fs_regions.specs.declared.course.Course.{Course}
 use Rattle.fs_regions.specs.declared.step.CourseStep.{CourseStep}
 use Rattle.fs_regions.specs.declared.entries.EntriesWalk.{EntriesWalk}
 use Rattle.fs_regions.specs.declared.walk.QueueWalk.TheVariants as asks
-use Rattle.fs_chain.specs.Holds.{HoldsPop, IsPopOf, IsQueue, Machine, Pop, PopsBy, live_of}
+use Rattle.fs_chain.specs.Holds.{HoldsPop, IsPopOf, IsRunQueue, RunState, Pop, PopsBy, live_of}
 use Rattle.fs_chain.specs.Laws.{IsOfferOf, WalksAreOffers}
 use Rattle.fs_chain.specs.Loads.{whole}
 use Rattle.fs_chain.specs.Pops.{AddsSo}
@@ -29,22 +29,22 @@ use Rattle.fs_notify.specs.Takers.{HasPopped}
 use Rattle.worked_callers.proofs.Popped.{pop_ends, popped_ends}
 
 -- the loads of a popped chain, and what memories that have them offer
-abbrev pub OfferedSo : Machine → QueueState → Pop → (old new : ChainHandle) → (bytes : List ℕ) → outcome.LoadOutcome →
+abbrev pub OfferedSo : RunState → QueueState → Pop → (old new : ChainHandle) → (bytes : List ℕ) → outcome.LoadOutcome →
     walked.PopOutcome → Type 0
-OfferedSo s q p old new bytes came reported =
+OfferedSo s q p old new bytes came result =
     (loaded : Loaded)
     × AddsSo old.state came new.descriptors.items p.loaded (whole old bytes) loaded
     × ((h : Host) (request : List ℕ) → HasLoaded (memory_over h old.regions) (live_of q).queue loaded request
-    → IsOfferOf new.descriptors.items reported request (offer (memory_over h old.regions) s.limit (live_of q).queue))
+    → IsOfferOf new.descriptors.items result request (offer (memory_over h old.regions) s.limit (live_of q).queue))
 
 pub offered_so : WalksAreOffers → (old new : ChainHandle) (q q' : QueueState) (bytes : List ℕ) (came : outcome.LoadOutcome)
     → q.stopped ≡ None → PopsBy old.state old new q q' bytes came
-    → (reported : walked.PopOutcome) (s : Machine) (i : ℕ) (p : Pop) → came ≡ outcomes.On reported → HasPopped reported
-    → HoldsPop s.limit p old → IsQueue s i q → s.places ≡ places_in old.regions → IsPopOf q p → s.limit ≤ 2 ^ 31
-    → OfferedSo s q p old new bytes came reported
-offered_so law old new q q' bytes came runs pops reported s i p is popped from there places index small =
-    let ends = pop_ends old new q q' bytes came reported s i p runs pops is (popped_ends reported popped) from there places index small in
-    (ends.0, ends.1, λ h request has. law s i q q' ends.0 new reported h old.regions request there ends.2 places has)
+    → (result : walked.PopOutcome) (s : RunState) (i : ℕ) (p : Pop) → came ≡ outcomes.On result → HasPopped result
+    → HoldsPop s.limit p old → IsRunQueue s i q → s.places ≡ places_in old.regions → IsPopOf q p → s.limit ≤ 2 ^ 31
+    → OfferedSo s q p old new bytes came result
+offered_so law old new q q' bytes came runs pops result s i p is popped from there places index small =
+    let ends = pop_ends old new q q' bytes came result s i p runs pops is (popped_ends result popped) from there places index small in
+    (ends.0, ends.1, λ h request has. law s i q q' ends.0 new result h old.regions request there ends.2 places has)
 
 -- the entries that such a call read out
 abbrev pub ReadSo : EntriesWalk → (all : List ℕ) → (loaded after : Loaded) → Memory → Type 0
@@ -54,16 +54,16 @@ ReadSo walk all loaded after m =
     × AreEntriesOf m adds.reads
 
 pub read_so : ReadOutIsTheMemorys → (old new : ChainHandle) (bytes : List ℕ) (came : outcome.LoadOutcome)
-    → (loaded after : Loaded) (course : Course) (pop_id : PopId) (walk : EntriesWalk) (m : Memory) (reported : walked.PopOutcome)
-    → came ≡ outcomes.On reported → old.state ≡ at.Walking course pop_id (asks.Entries walk)
+    → (loaded after : Loaded) (course : Course) (pop_id : PopId) (walk : EntriesWalk) (m : Memory) (result : walked.PopOutcome)
+    → came ≡ outcomes.On result → old.state ≡ at.Popping course pop_id (asks.Entries walk)
     → AddsSo old.state came new.descriptors.items loaded (whole old bytes) after
     → IsLoadOf m (length (whole old bytes)) (record { address = entry_address (visit_of walk.walk); came = Some (whole old bytes) })
     → ReadSo walk (whole old bytes) loaded after m
-read_so law old new bytes came loaded after course pop_id walk m reported is walking adds has =
+read_so law old new bytes came loaded after course pop_id walk m result is walking adds has =
     let ds = new.descriptors.items in
     let all = whole old bytes in
-    let on : AddsSo old.state (outcomes.On reported) ds loaded all after =
+    let on : AddsSo old.state (outcomes.On result) ds loaded all after =
     subst (λ (t : outcome.LoadOutcome). AddsSo old.state t ds loaded all after) is adds in
-    let by : AddsSo (at.Walking course pop_id (asks.Entries walk)) (outcomes.On reported) ds loaded all after =
-    subst (λ (st : state.ChainState). AddsSo st (outcomes.On reported) ds loaded all after) walking on in
+    let by : AddsSo (at.Popping course pop_id (asks.Entries walk)) (outcomes.On result) ds loaded all after =
+    subst (λ (st : state.ChainState). AddsSo st (outcomes.On result) ds loaded all after) walking on in
     (by.0, by.2, law m (entry_address (visit_of walk.walk)) all by.2.reads has by.2.read_out)

@@ -6,19 +6,19 @@ use Rattle.fuse_values.specs.declared.answer.FileAnswer as made_answer
 use Rattle.server_meanings.specs.Serving.{May}
 use Rattle.live_machine.specs.Files.{RunsOverFiles}
 use Rattle.live_machine.specs.Live.{ReceivesAnswer, after_answer}
-use Rattle.fs_chain.specs.Holds.{Answers, Machine}
+use Rattle.fs_chain.specs.Holds.{AnswersInRun, RunState}
 use Rattle.fs_chain.specs.declared.answering.Replied.{Replied}
 use Rattle.fs_chain.specs.declared.chain_handle.ChainHandle.{ChainHandle}
 use Rattle.worked_callers.specs.OverFiles.{AnswersOver}
 
 pub over_files : {F : Type 0} (may : May F) → RunsOverFiles may → (old new : ChainHandle) (answer : made_answer.FileAnswer)
-    (reported : Replied) → Answers old new answer reported → AnswersOver may old new answer
-unfolding Answers
-over_files may law old new answer reported answers s before behind c request bytes options files left out phase holds reported_so =
-    let is = answers s before behind c request bytes options out phase holds reported_so in
+    (result : Replied) → AnswersInRun old new answer result → AnswersOver may old new answer
+unfolding AnswersInRun
+over_files may law old new answer result answers s before behind c request bytes options files left out phase holds returned_so =
+    let is = answers s before behind c request bytes options out phase holds returned_so in
     let call : FileCall = is.0 in
     let made : FileAnswer = answer_of bytes answer in
-    let after : Machine = after_answer s before behind c request options ((call, made) ∷ []) tt in (
+    let after : RunState = after_answer s before behind c request options ((call, made) ∷ []) tt in (
       call,
       (
         is.1.1,

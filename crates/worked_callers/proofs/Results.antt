@@ -6,21 +6,21 @@ use Rattle.fs_chain.specs.declared.state.InFlight.{InFlight}
 use Rattle.fs_chain.specs.declared.state.ChainState as state
 use Rattle.fs_chain.specs.declared.state.ChainState.TheVariants as at
 use Rattle.fs_chain.specs.declared.chain_handle.ChainHandle.{ChainHandle}
-use Rattle.fs_chain.specs.Orders.{is_out, return_error}
-use Rattle.fs_chain.specs.Serials.{freed}
-use Rattle.fs_chain.specs.Pushes.{IfHasReply}
+use Rattle.fs_chain.specs.Orders.{is_out, push_refusal}
+use Rattle.fs_chain.specs.Tickets.{freed}
+use Rattle.fs_chain.specs.Pushes.{IfReplied}
 
 -- a handle that pushed its chain is freed
-freed_of : (old : ChainHandle) (out : InFlight) (reply : ChainReply) → old.state ≡ at.HasReply out reply
+freed_of : (old : ChainHandle) (out : InFlight) (reply : ChainReply) → old.state ≡ at.Replied out reply
     → freed (record old { state = at.Pushing out }) ≡ freed old
 freed_of old out reply is = ap
-    (λ (b : Bool). record old { state = at.Free; serial = if b then (old.serial + 1) % 2 ^ 32 else old.serial; list_len = 0 })
+    (λ (b : Bool). record old { state = at.Free; ticket = if b then (old.ticket + 1) % 2 ^ 32 else old.ticket; list_len = 0 })
     (sym (ap is_out is))
 
 pub freed_back : (st : state.ChainState) (q : QueueState) (len : ℕ) (old mid new : ChainHandle) → old.state ≡ st
-    → return_error st q len ≡ None
-    → IfHasReply st (λ out reply. mid ≡ record old { state = at.Pushing out }) → new ≡ freed mid → new ≡ freed old
-freed_back (at.HasReply out reply) q len old mid new is can pushing free = free ∙ ap freed pushing ∙ freed_of old out reply is
+    → push_refusal st q len ≡ None
+    → IfReplied st (λ out reply. mid ≡ record old { state = at.Pushing out }) → new ≡ freed mid → new ≡ freed old
+freed_back (at.Replied out reply) q len old mid new is can pushing free = free ∙ ap freed pushing ∙ freed_of old out reply is
 freed_back _ q len old mid new is can pushing free = absurd (cc)
 
 pub if_ok : {A E : Type 0} (r : Result A E) (P Q : A → Type 0) → ((a : A) → P a → Q a) → IfOk r P → IfOk r Q

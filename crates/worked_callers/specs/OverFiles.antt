@@ -7,7 +7,7 @@ use Rattle.server_meanings.specs.Serving.{May}
 use Rattle.server_phases.specs.Answering.{ReportsBytes}
 use Rattle.live_machine.specs.Files.{over}
 use Rattle.live_machine.specs.Live.{Asked, InFlightChain, LiveRun, ReceivesAnswer, after_answer, asked_chain}
-use Rattle.fs_chain.specs.Holds.{HoldsChain, Machine}
+use Rattle.fs_chain.specs.Holds.{HoldsInFlight, RunState}
 use Rattle.fs_chain.specs.declared.chain_handle.ChainHandle.{ChainHandle}
 
 -- in each state of a run in which the handle has a decoded chain, there is a call. If the file system may
@@ -15,15 +15,15 @@ use Rattle.fs_chain.specs.declared.chain_handle.ChainHandle.{ChainHandle}
 abbrev pub AnswersOver :
     {F : Type 0} → May F → (old new : ChainHandle) → made_answer.FileAnswer → Type 0
 AnswersOver {F} may old new answer =
-    (s : Machine) (before behind : List InFlightChain) (c : InFlightChain) (request bytes : List ℕ)
+    (s : RunState) (before behind : List InFlightChain) (c : InFlightChain) (request bytes : List ℕ)
     (options : ℕ) (files left : F) →
     s.chains ≡ before ++ c ∷ behind →
     c.phase ≡ Asked request options [] →
-    HoldsChain s.page_size c old →
+    HoldsInFlight s.page_size c old →
     ReportsBytes bytes answer →
     (call : FileCall)
     × (let calls = (call, answer_of bytes answer) ∷ [] in
     let after = after_answer s before behind c request options calls tt in
-    HoldsChain s.page_size (asked_chain c request options calls) new
+    HoldsInFlight s.page_size (asked_chain c request options calls) new
     × (may files call (answer_of bytes answer) left →
     LiveRun may (over s files) (ReceivesAnswer c call (answer_of bytes answer) ∷ []) (over after left)))

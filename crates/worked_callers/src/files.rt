@@ -12,12 +12,12 @@ use live_machine::law_files;
 /// Answers a chain's file call with an answer of this file system. The event is a run over its states, too.
 pub fn answer_over_files<F: FileSystem>(
     handle: &mut ChainHandle,
-    serial: u32,
+    ticket: u32,
     answer: FileAnswer,
 ) -> Result<Replied, ChainError>
-    ensures refused { IfErr result (λ e. IsNotTaken handle.old serial answer e) }
+    ensures refused { IfErr result (λ e. IsNotTaken handle.old ticket answer e) }
     ensures run { OnOk result (AnswersOver F.may handle.old handle.new answer) }
 {
     law_files::<F>();
-    handle.answer(serial, answer)
+    handle.answer(ticket, answer)
 }

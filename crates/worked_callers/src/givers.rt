@@ -5,9 +5,9 @@ ghost use Rattle.std.specs.Int.{w16, to_le_bytes};
 ghost use Rattle.fs_queue.specs.Returning.{Store, next_position};
 ghost use Rattle.fs_queue.specs.ReturningView.{stores_of};
 ghost use Rattle.fs_chain.specs.Holds.{live_of};
-ghost use Rattle.fs_chain.specs.Pushes.{IfHasReply, PushesBy};
+ghost use Rattle.fs_chain.specs.Pushes.{IfReplied, PushesBy};
 ghost use Rattle.fs_chain.specs.Queues.{gave};
-ghost use Rattle.fs_chain.specs.Serials.{freed};
+ghost use Rattle.fs_chain.specs.Tickets.{freed};
 ghost use Rattle.fs_chain.specs.declared.state.ChainState.TheVariants as at;
 ghost use Rattle.live_machine.specs.Several.{HasEventIndex, passes, returning};
 ghost use Rattle.notify.specs.Kicks as kicks;
@@ -32,27 +32,27 @@ pub fn push_one(
     ensures again { OnOk result (handle.new.state ≡ at.Free) }
     ensures freed { OnOk result (handle.new ≡ freed handle.old) }
     ensures queue { OnOk result (queue.new ≡ gave queue.old) }
-    ensures event { IfOk result (λ reported. HasEventIndex (live_of queue.old)
-        → reported.0 ≡ passes seen queue.old.next_used (next_position (returning (live_of queue.old)))) }
-    ensures stores { IfOk result (λ reported. IfHasReply handle.old.state
-        (λ out reply. PushesBy queue.old out reply reported.1)) }
+    ensures event { IfOk result (λ returned. HasEventIndex (live_of queue.old)
+        → returned.0 ≡ passes seen queue.old.next_used (next_position (returning (live_of queue.old)))) }
+    ensures stores { IfOk result (λ returned. IfReplied handle.old.state
+        (λ out reply. PushesBy queue.old out reply returned.1)) }
     ensures returns { OnOk result ((s : ThreadedQueue)
         → IsModelOf queue.old s
         → s.holder ≡ Walker
         → IsTrue (may_act (ways_of queue.old) s (ReturnsChains 1))
         × IsModelOf queue.new (after_act (ways_of queue.old) s (ReturnsChains 1))) }
-    ensures publishes { IfOk result (λ reported. (u : NotifyState)
+    ensures publishes { IfOk result (λ returned. (u : NotifyState)
         → u.published ≡ queue.old.next_used
         → (let published = (kicks.after (rules_of queue.old) u (kicks.Publishes 1)).published in
         (first : List Store) × (index : Store)
-        × (stores_of reported.1.used ≡ first ++ index ∷ [])
+        × (stores_of returned.1.used ≡ first ++ index ∷ [])
         × (index.bytes ≡ to_le_bytes w16 published)
         × (queue.new.next_used ≡ published))) }
-    ensures checks { IfOk result (λ reported. (u : NotifyState)
+    ensures checks { IfOk result (λ returned. (u : NotifyState)
         → u.published ≡ queue.new.next_used
         → u.unchecked ≡ 1
         → ShowsWish queue.old (to_le_bytes w16 seen) u.event u.muted
-        → (kicks.after (rules_of queue.old) u kicks.ChecksWish).owes ≡ (u.owes || reported.0)) }
+        → (kicks.after (rules_of queue.old) u kicks.ChecksWish).owes ≡ (u.owes || returned.0)) }
     ensures order { OnOk result ((u : NotifyState)
         → u.published ≡ queue.old.next_used
         → u.index ≡ u.published

@@ -6,7 +6,7 @@ ghost use Rattle.vm_memory.specs.Memory.{location};
 ghost use Rattle.fs_regions.specs.Places.{places_in};
 ghost use Rattle.fs_regions.specs.Walks.{asked_by, asked_len, nothing};
 ghost use Rattle.fs_chain.specs.Held.{load_count};
-ghost use Rattle.fs_chain.specs.Holds.{HoldsPop, IsQueue, Machine, pop_of};
+ghost use Rattle.fs_chain.specs.Holds.{HoldsPop, IsRunQueue, RunState, pop_of};
 ghost use Rattle.fs_chain.specs.declared.state.ChainState.TheVariants as at;
 
 use fs_chain::laws::law_held;
@@ -20,8 +20,8 @@ pub fn begin_held_pop(
     queue: &mut QueueState,
 ) -> Result<Option<usize>, ChainError>
     requires free { handle.old.state ≡ at.Free }
-    ensures held { IfOk result (λ on. IfSome on (λ n. (s : Machine) (i : ℕ)
-        → IsQueue s i queue.old
+    ensures held { IfOk result (λ on. IfSome on (λ n. (s : RunState) (i : ℕ)
+        → IsRunQueue s i queue.old
         → s.places ≡ places_in handle.old.regions
         → s.limit ≡ handle.old.limit
         → s.limit ≤ 2 ^ 31

@@ -30,8 +30,8 @@ pub fn miss_used_event(
     requires proceeds { queue.old.stopped ≡ None }
     requires events { HasEventIndex (live_of queue.old) }
     requires low { used_event_at queue.old.layout + 2 ≤ last_page }
-    ensures missed { IfOk result (λ reported.
-        (reported ≡ LoadOutcome.On
+    ensures missed { IfOk result (λ returned.
+        (returned ≡ LoadOutcome.On
         (PopOutcome.Missing (run_of (used_event_at queue.old.layout) 2) Permissions.Read))
         × (queue.new ≡ queue.old)
         × (handle.new.state ≡ at.Free)
@@ -40,7 +40,7 @@ pub fn miss_used_event(
         × (handle.new.regions ≡ behind regions [])
         × (handle.new.limit ≡ 0x101000)
         × (handle.new.session ≡ handle.old.session)
-        × (handle.new.serial ≡ handle.old.serial)
+        × (handle.new.ticket ≡ handle.old.ticket)
         × (handle.new.list_len ≡ handle.old.list_len)) }
 {
     handle.set_memory(GuestMap::behind(regions, Iotlb::new(alloc)), 0x101000)?;
@@ -57,8 +57,8 @@ pub fn pop_without_regions(
     requires free { handle.old.state ≡ at.Free }
     requires proceeds { queue.old.stopped ≡ None }
     requires events { HasEventIndex (live_of queue.old) }
-    ensures refused { IfOk result (λ reported.
-        (reported ≡ LoadOutcome.On (PopOutcome.Refused QueueError.AvailFlagsUnreachable))
+    ensures refused { IfOk result (λ returned.
+        (returned ≡ LoadOutcome.On (PopOutcome.Refused QueueError.AvailFlagsUnreachable))
         × (queue.new ≡ record queue.old { stopped = Some QueueError.AvailFlagsUnreachable })
         × (handle.new.state ≡ at.Free)
         × (handle.new.descriptors.items ≡ [])
@@ -66,7 +66,7 @@ pub fn pop_without_regions(
         × (handle.new.regions ≡ untranslated [])
         × (handle.new.limit ≡ 0x101000)
         × (handle.new.session ≡ handle.old.session)
-        × (handle.new.serial ≡ handle.old.serial)
+        × (handle.new.ticket ≡ handle.old.ticket)
         × (handle.new.list_len ≡ handle.old.list_len)) }
 {
     handle.set_memory(GuestMap::none(alloc), 0x101000)?;

@@ -6,7 +6,7 @@ ghost use Rattle.vm_iotlb.specs.declared.permissions.Permissions.{Permissions};
 ghost use Rattle.fs_regions.specs.Misses.{last_page};
 ghost use Rattle.fs_regions.specs.Places.{places_in};
 ghost use Rattle.fs_regions.specs.Walks.{nothing};
-ghost use Rattle.fs_chain.specs.Holds.{IsQueue, Machine, MissesUnless, live_of};
+ghost use Rattle.fs_chain.specs.Holds.{IsRunQueue, RunState, MissesUnless, live_of};
 ghost use Rattle.fs_chain.specs.declared.state.ChainState.TheVariants as at;
 ghost use Rattle.live_machine.specs.Live.{pop_refusal};
 
@@ -22,9 +22,9 @@ pub fn pop_or_miss(
 ) -> Result<LoadOutcome, ChainError>
     requires free { handle.old.state ≡ at.Free }
     ensures missed { IfOk result
-        (λ reported. (s : Machine) (i : ℕ) (range : IovaRange) (access : Permissions)
-        → reported ≡ LoadOutcome.On (PopOutcome.Missing range access)
-        → IsQueue s i queue.old
+        (λ returned. (s : RunState) (i : ℕ) (range : IovaRange) (access : Permissions)
+        → returned ≡ LoadOutcome.On (PopOutcome.Missing range access)
+        → IsRunQueue s i queue.old
         → s.places ≡ places_in handle.old.regions
         → s.limit ≡ handle.old.limit
         → s.limit ≤ 2 ^ 31

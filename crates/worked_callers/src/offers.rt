@@ -14,9 +14,9 @@ ghost use Rattle.fs_regions.specs.declared.course.Course.{Course};
 ghost use Rattle.fs_regions.specs.declared.step.CourseStep.{CourseStep};
 ghost use Rattle.fs_regions.specs.declared.entries.EntriesWalk.{EntriesWalk};
 ghost use Rattle.fs_regions.specs.declared.walk.QueueWalk.TheVariants as asks;
-ghost use Rattle.fs_chain.specs.Holds.{HoldsPop, IsPopOf, IsQueue, Machine, Pop, live_of};
+ghost use Rattle.fs_chain.specs.Holds.{HoldsPop, IsPopOf, IsRunQueue, RunState, Pop, live_of};
 ghost use Rattle.fs_chain.specs.Laws.{IsOfferOf};
-ghost use Rattle.fs_chain.specs.Loads.{RefusesWalk, whole};
+ghost use Rattle.fs_chain.specs.Loads.{RefusesAPop, whole};
 ghost use Rattle.fs_chain.specs.Pops.{AddsSo};
 ghost use Rattle.fs_chain.specs.declared.popping.PopOutcome.{PopOutcome};
 ghost use Rattle.fs_chain.specs.declared.state.ChainState.TheVariants as at;
@@ -36,12 +36,12 @@ pub fn continue_pop_as_offer(
     bytes: &[u8],
 ) -> Result<LoadOutcome, ChainError>
     requires proceeds { queue.old.stopped ≡ None }
-    ensures error { IfErr result (RefusesWalk handle.old queue.old bytes.now) }
-    ensures offered { IfOk result (λ outcome. (reported : PopOutcome) (s : Machine) (i : ℕ) (p : Pop)
-        → outcome ≡ LoadOutcome.On reported
-        → HasPopped reported
+    ensures error { IfErr result (RefusesAPop handle.old queue.old bytes.now) }
+    ensures offered { IfOk result (λ outcome. (returned : PopOutcome) (s : RunState) (i : ℕ) (p : Pop)
+        → outcome ≡ LoadOutcome.On returned
+        → HasPopped returned
         → HoldsPop s.limit p handle.old
-        → IsQueue s i queue.old
+        → IsRunQueue s i queue.old
         → s.places ≡ places_in handle.old.regions
         → IsPopOf queue.old p
         → s.limit ≤ 2 ^ 31
@@ -50,12 +50,12 @@ pub fn continue_pop_as_offer(
         loaded
         × ((h : Host) (request : List ℕ)
         → HasLoaded (memory_over h handle.old.regions) (live_of queue.old).queue loaded request
-        → IsOfferOf handle.new.descriptors.items reported request
+        → IsOfferOf handle.new.descriptors.items returned request
         (offer (memory_over h handle.old.regions) s.limit (live_of queue.old).queue))) }
     ensures read_out { IfOk result (λ outcome. (loaded after : Loaded) (course : Course) (pop_id : PopId)
-        (walk : EntriesWalk) (m : Memory) (reported : PopOutcome)
-        → outcome ≡ LoadOutcome.On reported
-        → handle.old.state ≡ at.Walking course pop_id (asks.Entries walk)
+        (walk : EntriesWalk) (m : Memory) (returned : PopOutcome)
+        → outcome ≡ LoadOutcome.On returned
+        → handle.old.state ≡ at.Popping course pop_id (asks.Entries walk)
         → AddsSo handle.old.state outcome handle.new.descriptors.items loaded (whole handle.old bytes.now)
         after
         → IsLoadOf m (length (whole handle.old bytes.now)) (record {

@@ -6,11 +6,11 @@ ghost use Rattle.std.specs.Prelude.{Bool, Err, IfErr, OnErr, option_map, nat_lt,
 ghost use Rattle.fs_regions.specs.Places.{places_in};
 ghost use Rattle.fs_regions.specs.Walks.{Loaded};
 ghost use Rattle.fs_chain.specs.Events.{store_of};
-ghost use Rattle.fs_chain.specs.Holds.{HoldsPop, IsPopOf, IsQueue, Machine, Pop};
-ghost use Rattle.fs_chain.specs.Loads.{ProceedsSo, IsSame, RefusesWalk, whole};
+ghost use Rattle.fs_chain.specs.Holds.{HoldsPop, IsPopOf, IsRunQueue, RunState, Pop};
+ghost use Rattle.fs_chain.specs.Loads.{ProceedsSo, IsSame, RefusesAPop, whole};
 ghost use Rattle.fs_chain.specs.Orders.{give_up_error};
 ghost use Rattle.fs_chain.specs.Pops.{AddsSo};
-ghost use Rattle.fs_chain.specs.Serials.{freed};
+ghost use Rattle.fs_chain.specs.Tickets.{freed};
 ghost use Rattle.fs_chain.specs.declared.popping.PopOutcome.{PopOutcome};
 ghost use Rattle.fs_chain.specs.declared.state.ChainState.TheVariants as at;
 ghost use Rattle.fs_chain.specs.declared.state.InFlight.{InFlight};
@@ -75,11 +75,11 @@ pub fn sleep_if_idle(
     bytes: &[u8],
 ) -> Result<LoadOutcome, ChainError>
     requires proceeds { queue.old.stopped ≡ None }
-    ensures error { IfErr result (RefusesWalk handle.old queue.old bytes.now) }
-    ensures sleeps { IfOk result (λ outcome. (m : Machine) (i : ℕ) (p : Pop) (s : ThreadedQueue)
+    ensures error { IfErr result (RefusesAPop handle.old queue.old bytes.now) }
+    ensures sleeps { IfOk result (λ outcome. (m : RunState) (i : ℕ) (p : Pop) (s : ThreadedQueue)
         → outcome ≡ LoadOutcome.On PopOutcome.Idle
         → HoldsPop m.limit p handle.old
-        → IsQueue m i queue.old
+        → IsRunQueue m i queue.old
         → m.places ≡ places_in handle.old.regions
         → IsPopOf queue.old p
         → m.limit ≤ 2 ^ 31
@@ -115,13 +115,13 @@ pub fn take_one(
     bytes: &[u8],
 ) -> Result<LoadOutcome, ChainError>
     requires proceeds { queue.old.stopped ≡ None }
-    ensures error { IfErr result (RefusesWalk handle.old queue.old bytes.now) }
+    ensures error { IfErr result (RefusesAPop handle.old queue.old bytes.now) }
     ensures takes { IfOk result
-        (λ outcome. (reported : PopOutcome) (m : Machine) (i : ℕ) (p : Pop) (s : ThreadedQueue)
-        → outcome ≡ LoadOutcome.On reported
-        → HasPopped reported
+        (λ outcome. (returned : PopOutcome) (m : RunState) (i : ℕ) (p : Pop) (s : ThreadedQueue)
+        → outcome ≡ LoadOutcome.On returned
+        → HasPopped returned
         → HoldsPop m.limit p handle.old
-        → IsQueue m i queue.old
+        → IsRunQueue m i queue.old
         → m.places ≡ places_in handle.old.regions
         → IsPopOf queue.old p
         → m.limit ≤ 2 ^ 31
@@ -136,11 +136,11 @@ pub fn take_one(
         ActsTo queue.old s (Loads ∷ TakesOne ∷ []) (after_act ways (after_act ways s Loads) TakesOne)
         queue.new index)) }
     ensures reports { IfOk result
-        (λ outcome. (reported : PopOutcome) (m : Machine) (i : ℕ) (p : Pop) (w : World) (fresh : Bool)
-        → outcome ≡ LoadOutcome.On reported
-        → HasPopped reported
+        (λ outcome. (returned : PopOutcome) (m : RunState) (i : ℕ) (p : Pop) (w : World) (fresh : Bool)
+        → outcome ≡ LoadOutcome.On returned
+        → HasPopped returned
         → HoldsPop m.limit p handle.old
-        → IsQueue m i queue.old
+        → IsRunQueue m i queue.old
         → m.places ≡ places_in handle.old.regions
         → IsPopOf queue.old p
         → m.limit ≤ 2 ^ 31
@@ -166,13 +166,13 @@ pub fn drop_one(handle: &mut ChainHandle, queue: &mut QueueState) -> Result<(), 
     ensures error { IfErr result (λ e. give_up_error handle.old.state queue.old ≡ Some e) }
     ensures free { OnOk result (handle.new ≡ freed handle.old) }
     ensures drops { OnOk result ((out : InFlight) (s : ThreadedQueue)
-        → handle.old.state ≡ at.Taken out
+        → handle.old.state ≡ at.Popped out
         → IsModelOf queue.old s
         → s.holder ≡ Walker
         → IsTrue (may_act (ways_of queue.old) s DropsOne)
         × IsModelOf queue.new (after_act (ways_of queue.old) s DropsOne)) }
     ensures reports { OnOk result ((out : InFlight) (w : World)
-        → handle.old.state ≡ at.Taken out
+        → handle.old.state ≡ at.Popped out
         → IsWorldOf queue.old w
         → IsTrue (nat_lt 0 w.out)
         × IsWorldOf queue.new (record w { position = back w.position 1; out = w.out - 1 })) }
@@ -190,9 +190,9 @@ pub fn begin_pop_at_maximum(
     queue: &mut QueueState,
 ) -> Result<LoadOutcome, ChainError>
     requires free { handle.old.state ≡ at.Free }
-    ensures proceeds { IfOk result (λ reported. ProceedsSo handle.old queue.old [] reported handle.new
+    ensures proceeds { IfOk result (λ returned. ProceedsSo handle.old queue.old [] returned handle.new
         queue.new) }
-    ensures error { IfErr result (RefusesWalk handle.old queue.old []) }
+    ensures error { IfErr result (RefusesAPop handle.old queue.old []) }
     ensures same { OnErr result (IsSame handle.old handle.new × (queue.new ≡ queue.old)) }
     ensures full { result ≡ Err ChainError.ChainInFlight
         → (s : ThreadedQueue)

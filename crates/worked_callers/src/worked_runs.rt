@@ -31,7 +31,7 @@ pub fn law_overlap_is_step<F: FileSystem>()
 /// The pop by the rewritten entry is the plain machine's refused step, which stops the queue.
 pub fn law_rewritten_is_refused<F: FileSystem>()
     ensures { (before after : F)
-        → F.may before rewritten.reported Done after
+        → F.may before rewritten.forgets Done after
         → (s : LiveState F) × (mid : LiveState F) × (w : LiveQueue)
         × (slice_get s.queues 0 ≡ Some w)
         × Happens F.may s (EndsPop 0 rewritten.second_loads [] (step.Refused HeadOutOfTable)) mid

@@ -9,7 +9,7 @@ use crate::pipe::Pipe;
 use crate::ring::{Patience, Ring, Server, LAST_CHAINS};
 use log::{debug, error};
 use pitskhomu::live::Asked;
-use pitskhomu::{Cancelled, Popped as Taken, Queue, Status, Worker};
+use pitskhomu::{Cancelled, Popped, Queue, Status, Worker};
 use std::collections::BTreeSet;
 use std::io;
 use std::panic::{catch_unwind, AssertUnwindSafe};
@@ -389,16 +389,16 @@ impl<F: ServedFs> QueueWorker<F> {
 }
 
 impl<F: ServedFs> Server for QueueWorker<F> {
-    fn take(&mut self, queue: &mut Queue, memory: &Arc<Table>) -> Result<Taken, Status> {
+    fn pop(&mut self, queue: &mut Queue, memory: &Arc<Table>) -> Result<Popped, Status> {
         self.work_over(memory)?;
         if memory.iommu().is_on() {
-            return self.take_translated(queue, memory);
+            return self.pop_translated(queue, memory);
         }
         let is_popped = self.worker.pop(queue, &**memory)?;
         if !is_popped {
             self.counts.found_none();
         }
-        Ok(if is_popped { Taken::Chain } else { Taken::Idle })
+        Ok(if is_popped { Popped::Chain } else { Popped::Idle })
     }
 
     fn ask(&mut self, memory: &Table, cancel: &Cancel) -> Asked {
@@ -437,9 +437,9 @@ impl<F: ServedFs> Server for QueueWorker<F> {
         self.counts.answered(doing.opcode(), numbers::ticks().wrapping_sub(begun));
     }
 
-    fn give_back(&mut self, queue: &mut Queue, memory: &Arc<Table>) -> Result<bool, Status> {
+    fn push(&mut self, queue: &mut Queue, memory: &Arc<Table>) -> Result<bool, Status> {
         let served = if self.is_translated {
-            self.give_back_translated(queue, memory)
+            self.push_translated(queue, memory)
         } else {
             self.worker.push(queue, &**memory)
         };

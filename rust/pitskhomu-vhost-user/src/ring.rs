@@ -18,7 +18,7 @@ use crate::notifier::Notifier;
 pub use handed::Handed;
 use log::warn;
 use pitskhomu::live::{Asked, Locked, Loop, Queued};
-use pitskhomu::{Popped as Taken, Queue, QueueLayout, Status};
+use pitskhomu::{Popped, Queue, QueueLayout, Status};
 use std::fs::File;
 use std::io;
 use std::sync::atomic::{AtomicBool, AtomicUsize};
@@ -178,8 +178,8 @@ fn send(owed: &mut Option<Arc<Notifier>>) {
 
 /// Serves chains, on a ring's thread.
 pub trait Server {
-    /// Takes the next chain over this memory, if one is available.
-    fn take(&mut self, queue: &mut Queue, memory: &Arc<Table>) -> Result<Taken, Status>;
+    /// Pops the next chain over this memory, if one is available.
+    fn pop(&mut self, queue: &mut Queue, memory: &Arc<Table>) -> Result<Popped, Status>;
 
     /// Asks the IOMMU for the misses of the last call, and waits for the answer, unless that is
     /// cancelled. The ring isn't locked.
@@ -188,12 +188,12 @@ pub trait Server {
     /// Forgets the IOMMU's refusals: the next call is for another chain.
     fn forget_refusals(&mut self);
 
-    /// Makes the reply to the chain that was taken, over the memory that it was taken from. `doing`
-    /// gets the request's opcode and number meanwhile. The ring isn't locked.
+    /// Makes the reply to the chain that was popped, over the memory of its pop. `doing` gets the
+    /// request's opcode and number meanwhile. The ring isn't locked.
     fn answer(&mut self, doing: &Doing, memory: &Table);
 
-    /// Returns the chain to the driver. The result is whether to notify the driver.
-    fn give_back(&mut self, queue: &mut Queue, memory: &Arc<Table>) -> Result<bool, Status>;
+    /// Pushes the chain. The result is whether to notify the driver.
+    fn push(&mut self, queue: &mut Queue, memory: &Arc<Table>) -> Result<bool, Status>;
 
     /// Forgets the chain, which was dropped.
     fn abandon(&mut self, _memory: &Arc<Table>) {}

@@ -3,7 +3,7 @@ use Rattle.live_machine.proofs.Alone.{own_is_returned, returned_is_step_by}
 use Rattle.live_machine.proofs.GuestRun.{pages_of_run}
 use Rattle.live_machine.proofs.Meant.{each_call_is_meant}
 use Rattle.live_machine.proofs.Moved.{moved_carries_on, stands_even}
-use Rattle.live_machine.proofs.Pages.{pages_are_reported, returns_tell}
+use Rattle.live_machine.proofs.Pages.{pages_are_marked, returns_tell}
 use Rattle.live_machine.proofs.Placed.{returns_have_places}
 use Rattle.live_machine.proofs.Stored.{stores_stay_there}
 use Rattle.live_machine.proofs.Queues.{runs_on_queue, once_per_live_chain, live_used_in_order}
@@ -22,7 +22,7 @@ pub returns-clause-own : goal.returns-clause-own
 returns-clause-own g c = own_is_returned _ _
 
 pub returns-clause-pages : goal.returns-clause-pages
-returns-clause-pages g c = pages_are_reported _
+returns-clause-pages g c = pages_are_marked _
 
 pub returns-clause-tell : goal.returns-clause-tell
 returns-clause-tell g c = returns_tell g.F.FileSystemBase.may

@@ -4,7 +4,7 @@ use super::{QueueWorker, ServedFs};
 use crate::iommu::{Cancel, Mappings, LAST_PAGE};
 use crate::memory::Table;
 use pitskhomu::live::Asked;
-use pitskhomu::{Miss, Popped as Taken, Queue, Served, Status};
+use pitskhomu::{Miss, Popped, Queue, Served, Status};
 use std::collections::BTreeSet;
 
 /// The first and the last address of a miss.
@@ -29,38 +29,38 @@ fn refused_of(misses: &[Miss], refused: &BTreeSet<u64>) -> Vec<Miss> {
 impl<F: ServedFs> QueueWorker<F> {
     /// A pop. What the front-end refuses is in the table for this one alone: so the chain gets its
     /// fault, or the ring its refusal.
-    pub(super) fn take_translated(
+    pub(super) fn pop_translated(
         &mut self,
         queue: &mut Queue,
         memory: &Table,
-    ) -> Result<Taken, Status> {
+    ) -> Result<Popped, Status> {
         let mut table = memory.iommu().lock();
         if !Mappings::can_have(&queue.layout()) {
             return Err(Status::BadArgument);
         }
         let mut entered = Vec::new();
-        let taken = self.pop(&mut table, queue, memory, &mut entered);
+        let popped = self.pop_over(&mut table, queue, memory, &mut entered);
         for miss in &entered {
             table.unrefuse(miss);
         }
-        if taken == Ok(Taken::Chain) {
+        if popped == Ok(Popped::Chain) {
             table.hold(self.index, &queue.layout());
             self.is_translated = true;
         }
-        taken
+        popped
     }
 
-    fn pop(
+    fn pop_over(
         &mut self,
         table: &mut Mappings,
         queue: &mut Queue,
         memory: &Table,
         entered: &mut Vec<Miss>,
-    ) -> Result<Taken, Status> {
+    ) -> Result<Popped, Status> {
         loop {
-            let taken = self.worker.lend(table.iotlb()?)?.pop(queue, memory)?;
-            if taken != Taken::Missing {
-                return Ok(taken);
+            let popped = self.worker.lend(table.iotlb()?)?.pop(queue, memory)?;
+            if popped != Popped::Missing {
+                return Ok(popped);
             }
             let misses = self.worker.misses();
             if reach_the_last_page(misses) {
@@ -68,7 +68,7 @@ impl<F: ServedFs> QueueWorker<F> {
             }
             let refused = refused_of(misses, &self.refused);
             if refused.is_empty() {
-                return Ok(taken);
+                return Ok(popped);
             }
             for miss in refused {
                 table.refuse(&miss)?;
@@ -89,7 +89,7 @@ impl<F: ServedFs> QueueWorker<F> {
         }
     }
 
-    pub(super) fn give_back_translated(
+    pub(super) fn push_translated(
         &mut self,
         queue: &mut Queue,
         memory: &Table,

@@ -5,7 +5,7 @@ use crate::memory::Table;
 use crate::notifier::Notifier;
 use log::{debug, error, warn};
 use pitskhomu::live::{self, Asked};
-use pitskhomu::{Popped as Taken, Status};
+use pitskhomu::{Popped, Status};
 use std::sync::atomic::Ordering;
 use std::sync::Arc;
 
@@ -33,7 +33,7 @@ impl<S: Server> live::Server<State> for Thread<'_, S> {
 
     /// With new numbers none is taken until the chains in flight are returned with the old ones:
     /// the thread that returns the last one wakes the others. So does a late call when it ends.
-    fn pop(&mut self, state: &mut State) -> Result<Taken, Status> {
+    fn pop(&mut self, state: &mut State) -> Result<Popped, Status> {
         let waits = state.is_new && state.queue.in_flight() > 0;
         if waits || self.ring.late.load(Ordering::SeqCst) > 0 {
             return Err(Status::ChainInFlight);
@@ -42,13 +42,13 @@ impl<S: Server> live::Server<State> for Thread<'_, S> {
             state.begin(self.ring.threads)?;
         }
         let table = self.table.as_ref().ok_or(Status::WrongOrder)?;
-        let taken = self.server.take(&mut state.queue, table).inspect_err(|status| {
+        let popped = self.server.pop(&mut state.queue, table).inspect_err(|status| {
             if status.is_out_of_memory() {
                 warn!("queue {}: out of memory, and a request waits", self.ring.index);
             }
         })?;
         state.numbers.next_avail = state.queue.next_avail();
-        Ok(taken)
+        Ok(popped)
     }
 
     fn begins(&mut self, _state: &mut State, number: u64) {
@@ -67,7 +67,7 @@ impl<S: Server> live::Server<State> for Thread<'_, S> {
         if self.doing.is_dropped() {
             self.server.abandon(table);
         } else {
-            match self.server.give_back(&mut state.queue, table) {
+            match self.server.push(&mut state.queue, table) {
                 Ok(true) => self.owed = state.interrupt(),
                 // or the queue was refused, and has begun again since
                 Ok(false) | Err(Status::OtherQueue) => {}
@@ -161,9 +161,9 @@ mod tests {
     struct Asked(Sender<()>);
 
     impl Server for Asked {
-        fn take(&mut self, _queue: &mut Queue, _memory: &Arc<Table>) -> Result<Taken, Status> {
+        fn pop(&mut self, _queue: &mut Queue, _memory: &Arc<Table>) -> Result<Popped, Status> {
             self.0.send(()).expect("who listens");
-            Ok(Taken::Idle)
+            Ok(Popped::Idle)
         }
 
         fn ask(&mut self, _memory: &Table, _cancel: &Cancel) -> live::Asked {
@@ -174,7 +174,7 @@ mod tests {
 
         fn answer(&mut self, _doing: &Doing, _memory: &Table) {}
 
-        fn give_back(&mut self, _: &mut Queue, _: &Arc<Table>) -> Result<bool, Status> {
+        fn push(&mut self, _: &mut Queue, _: &Arc<Table>) -> Result<bool, Status> {
             Ok(false)
         }
 

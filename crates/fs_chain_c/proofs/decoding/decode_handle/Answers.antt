@@ -6,7 +6,7 @@ pub returns-in-Ok : goal.returns-in-Ok
 returns-in-Ok c =
     let s = c.resume-session.result in
     let asked = c.decode.new.self in
-    let asks : asking.Decodes c.args.handle.now s c.args.request.now c.in-Ok.reported asked = record {
+    let asks : asking.Decodes c.args.handle.now s c.args.request.now c.in-Ok.decoded asked = record {
       can = search rules;
       reports = search rules;
       wanted = search rules;
@@ -14,11 +14,11 @@ returns-in-Ok c =
       session = search rules;
       stays = search rules;
     } in
-    let fields = c.tell-status.new.call in
-    let ticket = ap (λ (n : ℕ). record fields { ticket = n }) (c.serial-ticket.ensures ∙ c.decode.ensures.same.0.2) in
+    let fields = c.fill_decoded-status.new.call in
+    let ticket = ap (λ (n : ℕ). record fields { ticket = n }) (c.ticket-ticket.ensures ∙ c.decode.ensures.same.0.2) in
     inr (inr (
       search rules,
-      (s, search rules, asked, c.in-Ok.reported, asks, fields, c.tell-status.ensures, ticket, c.in-Ok.ensures.places),
+      (s, search rules, asked, c.in-Ok.decoded, asks, fields, c.fill_decoded-status.ensures, ticket, c.in-Ok.ensures.places),
     ))
 
 pub returns-in-Err : goal.returns-in-Err

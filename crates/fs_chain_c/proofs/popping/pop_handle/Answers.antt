@@ -3,13 +3,13 @@ use Rattle.fs_chain_c.proofs.popping.pop_handle.Goals as goal
 
 pub returns-in-Ok-clause-pops : goal.returns-in-Ok-clause-pops
 returns-in-Ok-clause-pops c =
-    inr (search rules, c.in-Some.preserved, search rules, inl (c.in-Ok.outcome, c.pop.new.queue, search rules, search rules, search rules))
+    inr (search rules, c.in-Some.checked, search rules, inl (c.in-Ok.outcome, c.pop.new.queue, search rules, search rules, search rules))
 
 pub returns-in-Err-clause-pops : goal.returns-in-Err-clause-pops
 returns-in-Err-clause-pops c =
     inr (
       search rules,
-      c.in-Some.preserved,
+      c.in-Some.checked,
       search rules,
       inr (c.in-Err.error, search rules, search rules, search rules, search rules, search rules),
     )

@@ -6,9 +6,9 @@ use Rattle.fs_chain_exports.proofs.iotlbs.pk_uses.Goals as goal
 
 pub returns : goal.returns
 returns c =
-    let reported = c.use_of-reported.result in
+    let returned = c.use_of-returned.result in
     let same : c.deref.result.now ≡ c.in-Some.handle.value = search rules in
-    let reports = subst (λ (b : ChainHandle). ReportsUse b c.args.iova c.args.len reported) same c.use_of-reported.ensures in
+    let reports = subst (λ (b : ChainHandle). ReportsUse b c.args.iova c.args.len returned) same c.use_of-returned.ensures in
     on_handle _ _ c.args.chain.now.held.value c.of_box.result.held.value
     c.in-Some.handle.value c.in-Some.handle.value (search rules) (search rules)
     (reports, refl)

@@ -10,7 +10,7 @@ loop-queue-preserved c =
     let qs = c.args.queues.now in
     let i = c.loop-queue.queue-index in (
       All-more HasState qs i no_numbers c.loop-queue-test.true c.loop-queue.invariant.0
-          (c.in-Some._state, c.in-Some.ensures.preserved),
+          (c.in-Some._state, c.in-Some.ensures.checked),
       All-more HasItsWidths qs i no_numbers c.loop-queue-test.true c.loop-queue.invariant.1 (search rules),
     )
 

@@ -9,5 +9,5 @@ pub returns-clause-steps : goal.returns-clause-steps
 returns-clause-steps g c s after i calls x notice step = steps_mark g.F.FileSystemBase.may s after i calls x notice step
 
 pub returns-clause-commands : goal.returns-clause-commands
-returns-clause-commands g c s after command reported answer performs =
-    commands_mark g.F.FileSystemBase.may s after command reported answer performs
+returns-clause-commands g c s after command turns answer performs =
+    commands_mark g.F.FileSystemBase.may s after command turns answer performs

@@ -1,5 +1,5 @@
 use Rattle.std.proofs.Common.{◌≡◌, ◌<◌, ℕ, false, get_or, length, rules, subst, sym}
-use Rattle.fs_driven.specs.Reported.{DrivesOne, is_of_queue}
+use Rattle.fs_driven.specs.Events.{DrivesOne, is_of_queue}
 use Rattle.fs_chain.specs.declared.chain_handle.ChainHandle.{ChainHandle}
 use Rattle.fs_chain.specs.declared.queue.QueueState.{QueueState}
 use Rattle.fs_driven.proofs.Lists.{at_place, got, number_at}

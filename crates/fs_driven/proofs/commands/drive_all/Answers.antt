@@ -1,6 +1,6 @@
 use Rattle.std.proofs.Common.{◌<◌, ◌∷◌, [], ℕ, get_or, length, rules, subst, sym}
-use Rattle.fs_driven.specs.Reported.{Drives, call_of}
-use Rattle.fs_driven.specs.declared.commands.Command.{Command}
+use Rattle.fs_driven.specs.Events.{Drives, call_of}
+use Rattle.fs_driven.specs.declared.commands.DriverCall.{DriverCall}
 use Rattle.fs_driven.proofs.Lists.{more_so_far, none_so_far, number_at}
 use Rattle.fs_driven.proofs.Rest.{none_yet, one_more}
 use Rattle.fs_driven.proofs.commands.drive_all.Goals as goal
@@ -23,7 +23,7 @@ loop-n-preserved c =
     let one : Drives c.args.on.now c.args.page_size l.handles c.perform.new.handles l.queues c.perform.new.queues
     (call_of (get_or c.args.places.now l.n 0) c.index-commands-n.result c.perform.new.returned ∷ []) =
     subst
-    (λ (x : Command). Drives c.args.on.now c.args.page_size l.handles c.perform.new.handles l.queues c.perform.new.queues
+    (λ (x : DriverCall). Drives c.args.on.now c.args.page_size l.handles c.perform.new.handles l.queues c.perform.new.queues
     (call_of (get_or c.args.places.now l.n 0) x c.perform.new.returned ∷ []))
     (sym c.index-commands-n.is) c.perform.ensures.step in
     record {

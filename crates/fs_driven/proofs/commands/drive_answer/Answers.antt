@@ -5,6 +5,6 @@ pub returns : goal.returns
 returns c =
     let e = c.answer.ensures in
     record {
-      step = answer_result c.args.handle.now c.answer.new.self c.args.queue.now c.args.serial c.args.answer c.answer.result
+      step = answer_result c.args.handle.now c.answer.new.self c.args.queue.now c.args.ticket c.args.answer c.answer.result
           e.given e.mine e.taken e.refused e.same e.page_size e.stays e.step;
     }

@@ -3,7 +3,7 @@ use Rattle.std.proofs.lemmas.List.Elements.{All-push}
 use Rattle.fs_queue.specs.Chain.{Descriptor, DescriptorTable, first_visit}
 use Rattle.fs_queue.specs.Loads.{ahead_at}
 use Rattle.fs_queue.specs.WalkingView.{AllEndIn64Bits, at_position}
-use Rattle.fs_queue.proofs.GivenLemmas.{answered_end, by_room, came_begin, came_preserved, failed_end, preserved_none, wants_size}
+use Rattle.fs_queue.proofs.GivenLemmas.{answered_end, by_room, came_begin, came_kept, failed_end, kept_none, wants_size}
 use Rattle.fs_queue.proofs.by_loads.walk_chain.Goals as goal
 
 pub steps-init : goal.steps-init
@@ -11,7 +11,7 @@ unfolding AllEndIn64Bits
 steps-init g c = rw c.clear.ensures.items (record {
   came = (
     [],
-    preserved_none c.args.descriptors.now.capacity,
+    kept_none c.args.descriptors.now.capacity,
     came_begin (g.M.GuestMemory.memory c.args.mem.now (g.H.HostBlocks.host c.args.host.now)) c.args.layout.size _ _ c.requires.at,
   );
   size = c.requires.size;
@@ -25,14 +25,14 @@ pub returns-in-Ends-clause-chain : goal.returns-in-Ends-clause-chain
 returns-in-Ends-clause-chain g c =
     answered_end (g.M.GuestMemory.memory c.args.mem.now (g.H.HostBlocks.host c.args.host.now)) (at_position c.args.layout 0) c.args.head
     c.args.descriptors.now.capacity
-    c.steps.preserved c.steps.descriptors.items c.in-Ends.walked _
+    c.steps.kept c.steps.descriptors.items c.in-Ends.walked _
     c.if_held.ensures.same (rw c.in-Ends.is at c.steps.invariant.came)
 
 pub returns-in-Ends-clause-memory : goal.returns-in-Ends-clause-memory
 returns-in-Ends-clause-memory g c =
     failed_end (g.M.GuestMemory.memory c.args.mem.now (g.H.HostBlocks.host c.args.host.now)) (at_position c.args.layout 0) c.args.head
     c.args.descriptors.now.capacity
-    c.steps.preserved c.steps.descriptors.items c.in-Ends.walked _
+    c.steps.kept c.steps.descriptors.items c.in-Ends.walked _
     c.if_held.ensures.lost (rw c.in-Ends.is at c.steps.invariant.came)
 
 pub steps-preserved-in-Ok : goal.steps-preserved-in-Ok
@@ -44,9 +44,9 @@ steps-preserved-in-Ok g c =
     rw c.in-Ok.ensures.ok (
     record {
       came =
-          came_preserved (g.M.GuestMemory.memory c.args.mem.now (g.H.HostBlocks.host c.args.host.now)) c.args.layout.size
+          came_kept (g.M.GuestMemory.memory c.args.mem.now (g.H.HostBlocks.host c.args.host.now)) c.args.layout.size
           (ahead_at c.args.layout.size (first_visit (at_position c.args.layout 0) c.args.head))
-          c.args.descriptors.now.capacity c.steps.preserved c.steps.preserved c.steps.descriptors.items _ c.in-Wants.walk
+          c.args.descriptors.now.capacity c.steps.kept c.steps.kept c.steps.descriptors.items _ c.in-Wants.walk
           (c.entry-table.result.0.address + 16 * c.entry-table.result.1) _ _ _ own at c.load_from_table-came.ensures
           (sym c.in-Some.is ∙ c.give-given.ensures.joins) c.give-given.ensures.then (λ t. (t, refl)) (λ f. inl f)
           (rw c.in-Wants.is at c.steps.invariant.came);
@@ -65,9 +65,9 @@ steps-preserved-in-Err g c =
     rw c.in-Err.ensures.err (
     record {
       came =
-          came_preserved (g.M.GuestMemory.memory c.args.mem.now (g.H.HostBlocks.host c.args.host.now)) c.args.layout.size
+          came_kept (g.M.GuestMemory.memory c.args.mem.now (g.H.HostBlocks.host c.args.host.now)) c.args.layout.size
           (ahead_at c.args.layout.size (first_visit (at_position c.args.layout 0) c.args.head))
-          c.args.descriptors.now.capacity c.steps.preserved false c.steps.descriptors.items _ c.in-Wants.walk
+          c.args.descriptors.now.capacity c.steps.kept false c.steps.descriptors.items _ c.in-Wants.walk
           (c.entry-table.result.0.address + 16 * c.entry-table.result.1)
           _ _ _ own at c.load_from_table-came.ensures
           (sym c.in-Some.is ∙ c.give-given.ensures.joins) c.give-given.ensures.then (λ t. absurd (cc))
@@ -86,9 +86,9 @@ steps-preserved g c =
     let own = rw c.in-Wants.is at c.steps.invariant.size in
     record {
       came =
-          came_preserved (g.M.GuestMemory.memory c.args.mem.now (g.H.HostBlocks.host c.args.host.now)) c.args.layout.size
+          came_kept (g.M.GuestMemory.memory c.args.mem.now (g.H.HostBlocks.host c.args.host.now)) c.args.layout.size
           (ahead_at c.args.layout.size (first_visit (at_position c.args.layout 0) c.args.head))
-          c.args.descriptors.now.capacity c.steps.preserved c.steps.preserved c.steps.descriptors.items c.steps.descriptors.items
+          c.args.descriptors.now.capacity c.steps.kept c.steps.kept c.steps.descriptors.items c.steps.descriptors.items
           c.in-Wants.walk
           (c.entry-table.result.0.address + 16 * c.entry-table.result.1) _ _ _ own at c.load_from_table-came.ensures
           (sym c.in_default.is ∙ c.give-given.ensures.joins) c.give-given.ensures.then (λ t. (t, refl)) (λ f. inl f)

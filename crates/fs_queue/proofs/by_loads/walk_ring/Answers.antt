@@ -12,7 +12,7 @@ use Rattle.fs_queue.specs.declared.walk.Walk.TheVariants as shows
 use Rattle.fs_queue.specs.NextAvail.{NextAvail}
 use Rattle.fs_queue.specs.Loads.{asks_entry}
 use Rattle.fs_queue.specs.RingingView.{AsksEntry, HasResult, by_index, by_entry, stage_at, stage_of}
-use Rattle.fs_queue.proofs.RingLemmas.{ring_is_still, asked_reported}
+use Rattle.fs_queue.proofs.RingLemmas.{ring_is_still, asked_next}
 use Rattle.fs_queue.proofs.by_loads.walk_ring.Goals as goal
 
 -- a queue by its layout and position
@@ -33,16 +33,16 @@ is_entry (shows.Chain head progress) e = absurd (cc)
 is_entry shows.Idle e = absurd (cc)
 is_entry (shows.Refused x) e = absurd (cc)
 
-reported_alone : (r : code.Walk) (n k : NextAvail) → ((w : RingEntryWalk) → r ≡ shows.RingEntry w → ⊥) → stage_of r ≡ stage_at n →
+next_alone : (r : code.Walk) (n k : NextAvail) → ((w : RingEntryWalk) → r ≡ shows.RingEntry w → ⊥) → stage_of r ≡ stage_at n →
     (asks_entry n ≡ false → n ≡ k) → stage_of r ≡ HasResult k
-reported_alone r n k other e same = by_test (asks_entry n) refl e
+next_alone r n k other e same = by_test (asks_entry n) refl e
   where
     by_test : (b : Bool) → asks_entry n ≡ b → stage_of r ≡ (if b then AsksEntry else HasResult n) → stage_of r ≡ HasResult k
     by_test true asks h = let w = is_entry r h in absurd (other w.0 w.1)
     by_test false asks h = h ∙ ap HasResult (same asks)
 
-pub returns-in-RingEntry-clause-reported : goal.returns-in-RingEntry-clause-reported
-returns-in-RingEntry-clause-reported g c =
+pub returns-in-RingEntry-clause-next : goal.returns-in-RingEntry-clause-next
+returns-in-RingEntry-clause-next g c =
     let m = g.M.GuestMemory.memory c.args.mem.now (g.H.HostBlocks.host c.args.host.now) in
     let q = at_position c.args.layout c.args.position in
     let here = placed _ _ _ _ c.new.ensures.layout c.new.ensures.position in
@@ -52,7 +52,7 @@ returns-in-RingEntry-clause-reported g c =
     let reports = subst (λ (x : Queue). (index : List ℕ) → length index ≡ 2 → asks_entry (by_index x (Some index)) ≡ true →
     stage_of c.give-in-RingEntry.result ≡ HasResult (by_entry x (Some index) c.load_from_ring-entry.result)) there
     c.give-in-RingEntry.ensures.reports in
-    asked_reported m q c.load_from_ring-index.result c.load_from_ring-entry.result _ c.load_from_ring-index.ensures
+    asked_next m q c.load_from_ring-index.result c.load_from_ring-entry.result _ c.load_from_ring-index.ensures
     (c.load_from_ring-entry.ensures ∙ ap (λ a. if reach m Read a 2 then Some (bytes m a 2) else None) c.entry_offset-offset.ensures.at) asks
     reports
 
@@ -64,8 +64,8 @@ returns-in_default g c =
     let still = ring_is_still m q c.load_from_ring-index.result (if reach m Read (ring_entry_at q) 2 then Some (bytes m (ring_entry_at q) 2)
     else None) c.load_from_ring-index.ensures refl in
     record {
-      reported =
-          reported_alone c.give.result (by_index q c.load_from_ring-index.result) (next_avail m q) c.in_default.not-RingEntry
+      next =
+          next_alone c.give.result (by_index q c.load_from_ring-index.result) (next_avail m q) c.in_default.not-RingEntry
           (c.give.ensures.stage ∙ ap (λ x. stage_at (by_index x c.load_from_ring-index.result)) here) still.alone;
       chain = rw c.new.ensures.layout at c.give.ensures.chain;
       stops = c.give.ensures.stops;

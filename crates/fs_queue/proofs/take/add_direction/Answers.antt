@@ -29,13 +29,13 @@ pub returns-then-not-branch-clause-found : goal.returns-then-not-branch-clause-f
 returns-then-not-branch-clause-found g c =
     let next = drop_item c.args.descriptors.now c.loop-descriptor.descriptor-index c.descriptor-item.result c.loop-descriptor-test.true
     c.descriptor-item.is in
-    let preserved = ap (λ x. beq x c.args.write_only) (sym c.is_write_only.ensures) ∙ c.if-is_write_only-write_only.true in
+    let kept = ap (λ x. beq x c.args.write_only) (sym c.is_write_only.ensures) ∙ c.if-is_write_only-write_only.true in
     let lost = rw (c.if-not-branch.true, c.access_of-access.ensures) at
     (c.in_ok-extend_range.ensures.found
     (addresses_of (of_direction c.args.write_only (drop (c.loop-descriptor.descriptor-index + 1) c.args.descriptors.now)))) in
     sym (sym (direction_next (location (g.M.GuestMemory.memory c.args.mem.now (g.H.HostBlocks.host c.args.host.now))
     (access_of c.args.write_only)) c.args.write_only
-    c.args.descriptors.now c.loop-descriptor.descriptor-index _ _ (places c.loop-descriptor.windows.items) next preserved ∙ lost)
+    c.args.descriptors.now c.loop-descriptor.descriptor-index _ _ (places c.loop-descriptor.windows.items) next kept ∙ lost)
     ∙ c.loop-descriptor.invariant.found)
 
 pub loop-descriptor-preserved : goal.loop-descriptor-preserved
@@ -44,7 +44,7 @@ loop-descriptor-preserved g c =
     c.descriptor-item.is in
     elim c.else-is_write_only-write_only.branch [
       | else-is_write_only-write_only-via-then-is_write_only-write_only+in_ok-extend_range+else-not-branch w ↦
-          let preserved = ap (λ x. beq x c.args.write_only) (sym c.is_write_only.ensures) ∙ w.if-is_write_only-write_only.true in
+          let kept = ap (λ x. beq x c.args.write_only) (sym c.is_write_only.ensures) ∙ w.if-is_write_only-write_only.true in
           let found = rw (w.if-not-branch.false, c.access_of-access.ensures) at
           (w.in_ok-extend_range.ensures.found
           (addresses_of (of_direction c.args.write_only (drop (c.loop-descriptor.descriptor-index + 1) c.args.descriptors.now)))) in
@@ -52,7 +52,7 @@ loop-descriptor-preserved g c =
             found = sym (direction_next (location (g.M.GuestMemory.memory c.args.mem.now (g.H.HostBlocks.host c.args.host.now))
                 (access_of c.args.write_only))
                 c.args.write_only c.args.descriptors.now c.loop-descriptor.descriptor-index _ _ (places c.loop-descriptor.windows.items)
-                next preserved ∙ found) ∙ c.loop-descriptor.invariant.found;
+                next kept ∙ found) ∙ c.loop-descriptor.invariant.found;
             lie = w.extend_range.ensures.lie c.loop-descriptor.invariant.lie;
             range = w.extend_range.ensures.range;
           })

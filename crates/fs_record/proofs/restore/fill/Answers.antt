@@ -1,5 +1,5 @@
 use Rattle.std.proofs.Common.{rules, refl, ◌<◌, length}
-use Rattle.fs_record.proofs.StreamLemmas.{read_more, read_less, read_preserved}
+use Rattle.fs_record.proofs.StreamLemmas.{read_more, read_less, read_kept}
 use Rattle.fs_record.proofs.restore.fill.Goals as goal
 
 pub returns-in-Ok-eq0-clause-err : goal.returns-in-Ok-eq0-clause-err
@@ -19,5 +19,5 @@ loop-at-preserved g c = record {
 
 pub returns-in-Err-clause-err : goal.returns-in-Err-clause-err
 returns-in-Err-clause-err g c =
-    let part = read_preserved c.loop-at.at c.loop-at.buf _ _ _ c.loop-at-test.true c.loop-at.invariant.read c.in-Err.ensures.left in
+    let part = read_kept c.loop-at.at c.loop-at.buf _ _ _ c.loop-at-test.true c.loop-at.invariant.read c.in-Err.ensures.left in
     (part.0, Prim.search rules, part.2, refl, Prim.search rules)

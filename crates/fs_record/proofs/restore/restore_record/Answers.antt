@@ -1,7 +1,7 @@
 use Rattle.std.proofs.Common.{rules, arith, ◌≡◌, ◌<◌, [], ◌∷◌, ◌++◌, length}
 use Rattle.std.proofs.KnownBytes.{Consumes-trans}
 use Rattle.fs_record.specs.Record.{end_bytes, queue_bytes}
-use Rattle.fs_record.specs.Restoring.{reported_by}
+use Rattle.fs_record.specs.Restoring.{versioned}
 use Rattle.fs_record.proofs.QueueLemmas.{end_refuses, front_more, proceeds_with, leaves_too, queue_refuses, whole_record, with_limit}
 use Rattle.fs_record.proofs.restore.restore_record.Goals as goal
 
@@ -12,7 +12,7 @@ returns-in-Err-clause-err g c =
     let head = c.in_ok-head.head in (
       before.0 ++ stopped.0,
       Consumes-trans _ _ _ before.0 stopped.0 before.1 stopped.1,
-      queue_refuses before.0 stopped.0 c.args.page_size c.args.limit (reported_by head.version c.args.page_size c.args.limit) head.options.0
+      queue_refuses before.0 stopped.0 c.args.page_size c.args.limit (versioned head.version c.args.page_size c.args.limit) head.options.0
           head.count c.loop-index.index c.loop-index.queues.items c.in-Err.error
           (proceeds_with head.version c.args.page_size c.args.limit) before.2 c.loop-index.invariant.so_far c.loop-index-test.true
           stopped.2,
@@ -31,7 +31,7 @@ loop-index-preserved g c =
       read = (
         before.0 ++ queue_bytes q,
         Consumes-trans _ _ _ before.0 (queue_bytes q) before.1 got.0,
-        rw pushed (front_more before.0 (reported_by head.version c.args.page_size c.args.limit) head.options.0 head.count
+        rw pushed (front_more before.0 (versioned head.version c.args.page_size c.args.limit) head.options.0 head.count
             c.loop-index.queues.items q before.2 short got.1),
       );
       failed = Prim.search rules;
@@ -52,7 +52,7 @@ returns-in_default-clause-err g c =
       read.0,
       read.1,
       (
-        reported_by head.version c.args.page_size c.args.limit,
+        versioned head.version c.args.page_size c.args.limit,
         head.options.0,
         head.count,
         proceeds_with head.version c.args.page_size c.args.limit,
@@ -66,7 +66,7 @@ pub returns-in-Ok-read_end-clause-ok : goal.returns-in-Ok-read_end-clause-ok
 returns-in-Ok-read_end-clause-ok g c =
     let before = c.loop-index.invariant.read in
     let head = c.in_ok-head.head in
-    let end = end_bytes (reported_by head.version 0 c.args.limit) in
+    let end = end_bytes (versioned head.version 0 c.args.limit) in
     let all : length c.loop-index.queues.items ≡ head.count =
     omega (arith, c.loop-index.invariant.so_far, c.loop-index.invariant.within, c.loop-index-test.false) in
     let read = c.in-Ok-read_end.ensures.ok in (

@@ -5,7 +5,7 @@ use Rattle.vm_iotlb.specs.Ranges.{table_held}
 use Rattle.vm_memory.specs.Memory.{addresses}
 use Rattle.vm_memory.specs.Translated.{translated}
 use Rattle.vm_memory.proofs.TranslatedLemmas.{first_piece, run_len-most, run_len-some}
-use Rattle.fs_regions.proofs.Mapping.{none_more, piece_reaches, run_reported, stops, reported_may}
+use Rattle.fs_regions.proofs.Mapping.{none_more, piece_reaches, run_is, stops, may_on_run}
 use Rattle.fs_regions.proofs.map.reaches_by.Goals as goal
 
 pub returns-in_default : goal.returns-in_default
@@ -27,8 +27,8 @@ returns-then-not-reaches c =
     let few = run_len-most left c.pieces.next table in
     let step = piece_reaches c.pieces.next left p.length p.base.0 false table c.args.access c.args.regions.now (omega (arith, first.1, few))
     c.in-Some.ensures.fits.0 first.0
-    (run_reported p.length left c.pieces.next table first.1)
-    (reported_may p.length left c.pieces.next table c.args.access first.1 c.in-Some.ensures.some) (c.if-not-reaches.ensures c.args.access)
+    (run_is p.length left c.pieces.next table first.1)
+    (may_on_run p.length left c.pieces.next table c.args.access first.1 c.in-Some.ensures.some) (c.if-not-reaches.ensures c.args.access)
     in
     sym (c.pieces.invariant.same ∙ step)
 
@@ -52,8 +52,8 @@ pieces-preserved c =
     let few = run_len-most left c.pieces.next table in
     let step = piece_reaches c.pieces.next left p.length p.base.0 true table c.args.access c.args.regions.now (omega (arith, first.1, few))
     c.in-Some.ensures.fits.0 first.0
-    (run_reported p.length left c.pieces.next table first.1)
-    (reported_may p.length left c.pieces.next table c.args.access first.1 c.in-Some.ensures.some)
+    (run_is p.length left c.pieces.next table first.1)
+    (may_on_run p.length left c.pieces.next table c.args.access first.1 c.in-Some.ensures.some)
     (c.if-not-reaches.ensures c.args.access) in
     let count : left - p.length ≡ end - (c.pieces.next + p.length) = omega arith in
     record {

@@ -4,7 +4,7 @@ use Rattle.vm_memory_core.specs.Window.{places_of}
 use Rattle.vm_memory.specs.Layout.{left_at, place}
 use Rattle.vm_memory.specs.Memory.{addresses, located}
 use Rattle.vm_memory.proofs.TranslatedLemmas.{first_lost, first_piece, run_len-most, run_len-some, window_translated}
-use Rattle.fs_regions.proofs.Mapping.{denied, left_reported, run_reported, reported_may}
+use Rattle.fs_regions.proofs.Mapping.{denied, run_left, run_is, may_on_run}
 use Rattle.fs_regions.proofs.map.window_by.Goals as goal
 
 pub returns-in_default-clause-none : goal.returns-in_default-clause-none
@@ -22,8 +22,8 @@ returns-in-Some-window_at-clause-some c =
     let table = table_held c.args.table.now in
     let p = c.in-Some.piece in
     let first = first_piece c.args.most c.args.addr table p _ c.requires c.in-Some.ensures.piece.1 in
-    let all = reported_may p.length c.args.most c.args.addr table c.args.access first.1 c.in-Some.ensures.some in
-    let whole = run_reported p.length c.args.most c.args.addr table first.1 in
+    let all = may_on_run p.length c.args.most c.args.addr table c.args.access first.1 c.in-Some.ensures.some in
+    let whole = run_is p.length c.args.most c.args.addr table first.1 in
     let few = run_len-most c.args.most c.args.addr table in
     let w = c.in-Some-window_at.window in
     let some = c.in-Some-window_at.ensures.some in
@@ -42,7 +42,7 @@ returns-in-Some-window_at-clause-longest c =
     let p = c.in-Some.piece in
     let first = first_piece c.args.most c.args.addr table p _ c.requires c.in-Some.ensures.piece.1 in
     rw c.replace_bitmap.ensures.window
-    (left_reported c.args.most c.args.addr p.length c.in-Some-window_at.window.len (left_at c.args.regions.now p.base.0) table
+    (run_left c.args.most c.args.addr p.length c.in-Some-window_at.window.len (left_at c.args.regions.now p.base.0) table
     c.args.regions.now c.in-Some.ensures.fits.1 first.1
     (ap (left_at c.args.regions.now) first.0) c.in-Some-window_at.ensures.longest)
 
@@ -52,6 +52,6 @@ returns-in-None-clause-none c = λ none.
     let p = c.in-Some.piece in
     let first = first_piece c.args.most c.args.addr table p _ c.requires c.in-Some.ensures.piece.1 in
     let some : 0 < p.length = rw first.1 (run_len-some c.args.most c.args.addr table c.requires) in
-    let all = reported_may p.length c.args.most c.args.addr table c.args.access first.1 c.in-Some.ensures.some in
+    let all = may_on_run p.length c.args.most c.args.addr table c.args.access first.1 c.in-Some.ensures.some in
     first_lost p.length c.args.addr table c.args.access c.args.regions.now 0 some all
     (sym (ap (place c.args.regions.now) first.0) ∙ c.window_at.ensures.none c.in-None.is)

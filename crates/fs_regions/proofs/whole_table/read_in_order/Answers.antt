@@ -1,11 +1,11 @@
 use Rattle.std.proofs.Common.{◌∙◌, ◌+◌, [], ◌∷◌, length, length-append, ap, refl, sym, arith}
-use Rattle.fs_regions.proofs.InOrder.{IsEntry, in_order_ends, in_order_none, in_order_on, preserved, preserved_all}
+use Rattle.fs_regions.proofs.InOrder.{IsEntry, in_order_ends, in_order_none, in_order_on, kept, kept_all}
 use Rattle.fs_regions.proofs.whole_table.read_in_order.Goals as goal
 
 pub entries-init : goal.entries-init
 entries-init c = record {
   order = in_order_none c.args.walk.now c.args.bytes.now c.args.descriptors.now.items c.requires.first;
-  front = preserved_all c.args.descriptors.now.items;
+  front = kept_all c.args.descriptors.now.items;
   len = omega arith;
   capacity = refl;
   few = omega arith;
@@ -42,7 +42,7 @@ entries-preserved c =
       order = in_order_on c.args.walk.now c.args.bytes.now c.args.descriptors.now.items _ _ c.entries.index (c.entries.index + 1)
           c.descriptor_at-descriptor.result is (sym c.has_next.ensures ∙ c.if-not-has_next.false)
           (c.proceeds_to.ensures c.if-not-proceeds_to.false) refl c.push_reserved.ensures.items c.entries.invariant.order;
-      front = preserved c.args.descriptors.now.items c.entries.descriptors.items _ c.descriptor_at-descriptor.result
+      front = kept c.args.descriptors.now.items c.entries.descriptors.items _ c.descriptor_at-descriptor.result
           c.push_reserved.ensures.items c.entries.invariant.front;
       len =
           let more = ap length c.push_reserved.ensures.items in

@@ -1,5 +1,5 @@
-use Rattle.fs_shared.proofs.SincePreserved.{calls_keep_since, calls_mark_since, earlier_asks_nothing, gathers_keep_since, joins_keep_since}
-use Rattle.fs_shared.proofs.SincePreserved.{meets_keep_since}
+use Rattle.fs_shared.proofs.SinceKept.{calls_keep_since, calls_mark_since, earlier_asks_nothing, gathers_keep_since, joins_keep_since}
+use Rattle.fs_shared.proofs.SinceKept.{meets_keep_since}
 use Rattle.fs_shared.proofs.laws.law_marks_since.Goals as goal
 
 pub returns : goal.returns

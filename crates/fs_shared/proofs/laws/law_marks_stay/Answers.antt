@@ -1,4 +1,4 @@
-use Rattle.fs_shared.proofs.MarksPreserved.{calls_keep, calls_mark, joins_keep, meets_keep}
+use Rattle.fs_shared.proofs.MarksKept.{calls_keep, calls_mark, joins_keep, meets_keep}
 use Rattle.fs_shared.proofs.laws.law_marks_stay.Goals as goal
 
 pub returns : goal.returns

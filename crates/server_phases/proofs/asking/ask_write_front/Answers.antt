@@ -8,8 +8,8 @@ use Rattle.server_phases.proofs.Fronts.{behind, front_begins, record_begins, rec
 use Rattle.server_phases.proofs.Reporting.{has_asker}
 use Rattle.server_phases.proofs.asking.ask_write_front.Goals as goal
 
-pub returns-in-Ok-clause-reported : goal.returns-in-Ok-clause-reported
-returns-in-Ok-clause-reported c = λ page_size options request len is.
+pub returns-in-Ok-clause-decoded : goal.returns-in-Ok-clause-decoded
+returns-in-Ok-clause-decoded c = λ page_size options request len is.
     let front = c.args.front.now in
     let head = c.in-Ok.head in
     let left = c.record.new.self.bytes.now in
@@ -20,7 +20,7 @@ returns-in-Ok-clause-reported c = λ page_size options request len is.
     let joined : drop 40 (drop 40 request) ≡ drop 80 request = drop-drop 40 40 request in
     let count : c.args.len - 80 ≡ length (drop 40 (drop 40 request)) = rw (joined, length-drop 80 request, len) refl in
     rw (meaning_head options c.args.room request (drop 40 request) head begins, sym joined)
-    (c.ask_write_head.ensures.reported page_size options (drop 40 request)
+    (c.ask_write_head.ensures.decoded page_size options (drop 40 request)
     (subst (λ (x : List ℕ). BeginsRecord x (drop 40 request)) same (record_begins front request is long)) count)
 
 pub returns-in-Ok-clause-asker : goal.returns-in-Ok-clause-asker

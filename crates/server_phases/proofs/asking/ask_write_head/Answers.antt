@@ -6,14 +6,14 @@ use Rattle.server_meanings.proofs.Rows.{meant_long, meant_row}
 use Rattle.server_phases.proofs.Fronts.{write_is}
 use Rattle.server_phases.proofs.asking.ask_write_head.Goals as goal
 
-pub returns-then-head-gt-MAX_REQUEST_LEN-clause-reported : goal.returns-then-head-gt-MAX_REQUEST_LEN-clause-reported
-returns-then-head-gt-MAX_REQUEST_LEN-clause-reported c = λ page_size options bytes begins len.
-    c.refused.ensures.reported page_size options _ (drop 40 bytes)
+pub returns-then-head-gt-MAX_REQUEST_LEN-clause-decoded : goal.returns-then-head-gt-MAX_REQUEST_LEN-clause-decoded
+returns-then-head-gt-MAX_REQUEST_LEN-clause-decoded c = λ page_size options bytes begins len.
+    c.refused.ensures.decoded page_size options _ (drop 40 bytes)
     (meant_long (given c.args.head.now options c.args.room) bytes c.if-head-gt-MAX_REQUEST_LEN.true)
 
-pub returns-clause-reported : goal.returns-clause-reported
+pub returns-clause-decoded : goal.returns-clause-decoded
 unfolding row
-returns-clause-reported c = λ page_size options bytes begins len.
+returns-clause-decoded c = λ page_size options bytes begins len.
     rw (meant_row (given c.args.head.now options c.args.room) bytes (Some op.Write) c.if-head-gt-MAX_REQUEST_LEN.false
     (write_is (opcode_of c.args.head.now.opcode) c.requires))
-    (c.ask_write_row.ensures.reported page_size options bytes begins len)
+    (c.ask_write_row.ensures.decoded page_size options bytes begins len)

@@ -5,8 +5,8 @@ use Rattle.server_meanings.specs.Grammar.{Lists}
 use Rattle.server_meanings.specs.Listings.{listing_of}
 use Rattle.server_phases.proofs.asking.entries_asked.Goals as goal
 
-pub returns-clause-reported : goal.returns-clause-reported
-returns-clause-reported c = λ page_size options bytes. (
+pub returns-clause-decoded : goal.returns-clause-decoded
+returns-clause-decoded c = λ page_size options bytes. (
   Lists c.args.head.now.unique (listing_of c.args.with_nodes c.args.head.now c.args.request.now),
   refl,
   ap (λ (who : Context). Readdir who c.args.head.now.nodeid c.args.request.now.fh c.args.request.now.size c.args.request.now.offset)

@@ -6,8 +6,8 @@ use Rattle.server_calls.specs.Requests.{batch_forget_call}
 use Rattle.server_meanings.specs.Grammar.{One}
 use Rattle.server_phases.proofs.asking.pairs_asked.Goals as goal
 
-pub returns-clause-reported : goal.returns-clause-reported
-returns-clause-reported c = λ page_size options m bytes whole asks. (
+pub returns-clause-decoded : goal.returns-clause-decoded
+returns-clause-decoded c = λ page_size options m bytes whole asks. (
   One c.args.head.now.unique (batch_forget_call c.args.head.now (pairs_in c.args.counts.bytes.now)),
   asks,
   ap (λ (who : Context). BatchForget who (pairs_in c.args.counts.bytes.now)) c.from-context.ensures,

@@ -3,8 +3,8 @@ use Rattle.server_calls.specs.Requests.{write_call}
 use Rattle.server_meanings.specs.Grammar.{One}
 use Rattle.server_phases.proofs.asking.write_asked.Goals as goal
 
-pub returns-clause-reported : goal.returns-clause-reported
-returns-clause-reported c = λ page_size options bytes e. (
+pub returns-clause-decoded : goal.returns-clause-decoded
+returns-clause-decoded c = λ page_size options bytes e. (
   One c.args.head.now.unique (write_call c.args.head.now c.args.request.now bytes),
   refl,
   c.write_value.ensures.call bytes,

@@ -29,7 +29,7 @@ returns-in-Ok c =
     let queue_is : c.push.new.queue ≡ pushing = c.in_ok-stores.ensures.queue in
     let last_is : c.pushed.new.queue ≡ gave pushing = c.in-Ok.ensures.queue ∙ ap gave queue_is in
     let ok : end_error st pushing ≡ None = subst (λ (k : QueueState). end_error st k ≡ None) queue_is c.in-Ok.ensures.ok in
-    let reported : c.in-Ok.notice ≡ notifies_of pushing bytes =
+    let notice_is : c.in-Ok.notice ≡ notifies_of pushing bytes =
     c.in-Ok.ensures.notifies ∙ ap (λ (k : QueueState). notifies_of k c.to_le_bytes-bytes.result) queue_is
     ∙ ap (λ (bs : List ℕ). notifies_of pushing bs) c.to_le_bytes-bytes.ensures in
     record {
@@ -38,7 +38,7 @@ returns-in-Ok c =
           c.in_ok-stores.ensures.ok c.in_ok-stores.ensures.pushing c.in-Ok.ensures.free;
       queue = last_is;
       event = λ by_event.
-          reported ∙ subst (λ (n : ℕ). wants w bytes ≡ passes n w.next_used (next_position (returning w))) same
+          notice_is ∙ subst (λ (n : ℕ). wants w bytes ≡ passes n w.next_used (next_position (returning w))) same
           (c.law_queues.ensures.event w bytes by_event counted.1 (subst (λ (n : ℕ). n < 2 ^ 16) (sym same) small));
       stores = c.in_ok-stores.ensures.stores;
       returns = λ s of walker.
@@ -49,7 +49,7 @@ returns-in-Ok c =
       checks = λ u at one shows.
           c.law_givers.ensures.checks pushing bytes u counted.1 (subst (λ (n : ℕ). n < 2 ^ 16) (sym same) small)
           (at ∙ ap (λ (k : QueueState). k.next_used) last_is) one shows
-          ∙ ap (λ (b : Bool). u.owes || b) (sym reported);
+          ∙ ap (λ (b : Bool). u.owes || b) (sym notice_is);
       order = λ u at index none room.
           let law = c.law_givers.ensures.order q u counted.1 at index none room in
           (law.0, law.1 ∙ sym (ap (λ (k : QueueState). k.next_used) last_is));

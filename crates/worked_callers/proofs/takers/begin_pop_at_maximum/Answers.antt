@@ -1,5 +1,5 @@
 use Rattle.std.proofs.Common.{◌≡◌, [], Result, IfErr, OnErr, subst, sym}
-use Rattle.fs_chain.specs.Loads.{IsSame, RefusesWalk}
+use Rattle.fs_chain.specs.Loads.{IsSame, RefusesAPop}
 use Rattle.fs_chain.specs.declared.error.ChainError.{ChainError}
 use Rattle.fs_chain.specs.declared.error.ChainError.TheVariants as error
 use Rattle.fs_chain.specs.declared.loads.LoadOutcome.{LoadOutcome}
@@ -20,8 +20,8 @@ returns c =
       error = c.pop.ensures.error;
       same = c.pop.ensures.same;
       full = λ is s of asker shown.
-          let why : RefusesWalk old q [] error.ChainInFlight =
-          subst (λ (r : Result LoadOutcome ChainError). IfErr r (RefusesWalk old q [])) is c.pop.ensures.error in
+          let why : RefusesAPop old q [] error.ChainInFlight =
+          subst (λ (r : Result LoadOutcome ChainError). IfErr r (RefusesAPop old q [])) is c.pop.ensures.error in
           let same =
           subst (λ (r : Result LoadOutcome ChainError). OnErr r (IsSame old new × (after ≡ q))) is c.pop.ensures.same in
           let law = c.law_takers.ensures.full q s (full_so old q c.requires.free why) of asker shown in

@@ -50,10 +50,10 @@ struct Holding {
 }
 
 impl Server for Holding {
-    fn take(&mut self, queue: &mut Queue, memory: &Arc<Table>) -> Result<Popped, Status> {
+    fn pop(&mut self, queue: &mut Queue, memory: &Arc<Table>) -> Result<Popped, Status> {
         self.worker.set_memory(&self.device, &memory.regions())?;
-        let is_taken = self.worker.pop(queue, &**memory)?;
-        Ok(if is_taken { Popped::Chain } else { Popped::Idle })
+        let is_popped = self.worker.pop(queue, &**memory)?;
+        Ok(if is_popped { Popped::Chain } else { Popped::Idle })
     }
 
     fn ask(&mut self, _memory: &Table, _cancel: &Cancel) -> Asked {
@@ -70,7 +70,7 @@ impl Server for Holding {
         self.worker.answer(&self.device, &Empty, memory).expect("an answer");
     }
 
-    fn give_back(&mut self, queue: &mut Queue, memory: &Arc<Table>) -> Result<bool, Status> {
+    fn push(&mut self, queue: &mut Queue, memory: &Arc<Table>) -> Result<bool, Status> {
         let pushed = if self.fails.swap(false, Ordering::SeqCst) {
             Err(Status::OutOfMemory)
         } else {
@@ -99,7 +99,7 @@ impl Server for Holding {
 struct Silent;
 
 impl Server for Silent {
-    fn take(&mut self, _queue: &mut Queue, _memory: &Arc<Table>) -> Result<Popped, Status> {
+    fn pop(&mut self, _queue: &mut Queue, _memory: &Arc<Table>) -> Result<Popped, Status> {
         Ok(Popped::Idle)
     }
     fn ask(&mut self, _memory: &Table, _cancel: &Cancel) -> Asked {
@@ -107,7 +107,7 @@ impl Server for Silent {
     }
     fn forget_refusals(&mut self) {}
     fn answer(&mut self, _doing: &Doing, _memory: &Table) {}
-    fn give_back(&mut self, _: &mut Queue, _: &Arc<Table>) -> Result<bool, Status> {
+    fn push(&mut self, _: &mut Queue, _: &Arc<Table>) -> Result<bool, Status> {
         Ok(false)
     }
     fn set_notification(

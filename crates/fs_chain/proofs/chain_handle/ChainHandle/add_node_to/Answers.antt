@@ -1,13 +1,13 @@
 use Rattle.std.proofs.Common.{◌∙◌, true, length, refl, ap}
 use Rattle.fuse_fs.specs.Answers.{listed}
-use Rattle.fs_chain.specs.Listings.{reported_added}
+use Rattle.fs_chain.specs.Listings.{added_of}
 use Rattle.fs_chain.proofs.Adding.{adds_by, found_kind}
 use Rattle.fs_chain.proofs.chain_handle.ChainHandle.add_node_to.Goals as goal
 
 pub returns-clause-adds : goal.returns-clause-adds
 returns-clause-adds c =
     let add = c.add_with_node-outcome.ensures in (
-      c.reported_added-reported.ensures ∙ ap reported_added add.outcome,
+      c.added_of-added.ensures ∙ ap added_of add.outcome,
       (
         _,
         refl,

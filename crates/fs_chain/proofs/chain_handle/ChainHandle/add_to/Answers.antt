@@ -1,14 +1,14 @@
 use Rattle.std.proofs.Common.{◌∙◌, false, length, refl, ap}
 use Rattle.fuse_fs.specs.Answers.{listed}
 use Rattle.server_replies.specs.Entries.{no_node}
-use Rattle.fs_chain.specs.Listings.{reported_added}
+use Rattle.fs_chain.specs.Listings.{added_of}
 use Rattle.fs_chain.proofs.Adding.{adds_by, plain_kind}
 use Rattle.fs_chain.proofs.chain_handle.ChainHandle.add_to.Goals as goal
 
 pub returns-clause-adds : goal.returns-clause-adds
 returns-clause-adds c =
     let add = c.add-outcome.ensures in (
-      c.reported_added-reported.ensures ∙ ap reported_added add.outcome,
+      c.added_of-added.ensures ∙ ap added_of add.outcome,
       (
         _,
         refl,

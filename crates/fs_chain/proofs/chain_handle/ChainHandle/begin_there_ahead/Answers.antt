@@ -15,7 +15,7 @@ returns-in-Some c =
     record {
       pops = pops_apart c.args.self.now c.settle-walked.new.self c.clear_part.new.self c.args.queue.now c.settle-walked.new.queue _ ds step
           c.pop_id-pop_id.result c.settle-walked.result c.requires.free c.requires.proceeds c.requires.events c.requires.room
-          (rw c.in-Some.is at c.straight.ensures) c.pop_id-pop_id.ensures (s.reported, s.state, s.queue, leaves, s.same) s.left s.stays
+          (rw c.in-Some.is at c.straight.ensures) c.pop_id-pop_id.ensures (s.returned, s.state, s.queue, leaves, s.same) s.left s.stays
           s.apart.1 c.clear_part.ensures.cleared c.clear_part.ensures.apart;
     }
 
@@ -29,6 +29,6 @@ returns-in-None c =
       pops = pops_apart c.args.self.now c.settle_stepwise-walked.new.self c.clear_part-in-None.new.self c.args.queue.now
           c.settle_stepwise-walked.new.queue _ ds step c.pop_id-pop_id.result c.settle_stepwise-walked.result c.requires.free
           c.requires.proceeds c.requires.events c.requires.room c.begin_stepwise-step.ensures c.pop_id-pop_id.ensures
-          (s.reported, s.state, s.queue, leaves, s.same) s.left s.stays s.apart.1 c.clear_part-in-None.ensures.cleared
+          (s.returned, s.state, s.queue, leaves, s.same) s.left s.stays s.apart.1 c.clear_part-in-None.ensures.cleared
           c.clear_part-in-None.ensures.apart;
     }

@@ -7,10 +7,10 @@ use Rattle.fs_chain.proofs.chain_handle.ChainHandle.give.Goals as goal
 pub returns-in-Load-clause-walks : goal.returns-in-Load-clause-walks
 returns-in-Load-clause-walks c =
     let w = c.args.self.now in
-    walks_on c.in-Walking.course c.in-Walking.pop_id c.in-Walking.walk _ _ _ _ _ _ c.requires.proceeds c.in-Walking.is (
+    walks_on c.in-Popping.course c.in-Popping.pop_id c.in-Popping.walk _ _ _ _ _ _ c.requires.proceeds c.in-Popping.is (
       step.Load c.in-Load.next,
       (ap reports.Load c.len-len.ensures.len, refl, refl, tt, (refl, refl, refl, refl)),
-      comes_taken c.in-Walking.course c.in-Walking.walk c.take-taken.result c.args.loaded.now (step.Load c.in-Load.next) w.regions
+      comes_taken c.in-Popping.course c.in-Popping.walk c.take-taken.result c.args.loaded.now (step.Load c.in-Load.next) w.regions
           w.descriptors.items c.give.new.descriptors.items
           c.take-taken.ensures c.in-Load.ensures,
     )
@@ -18,11 +18,11 @@ returns-in-Load-clause-walks c =
 pub returns-in_default-give-clause-walks : goal.returns-in_default-give-clause-walks
 returns-in_default-give-clause-walks c =
     let w = c.args.self.now in
-    let comes = comes_taken c.in-Walking.course c.in-Walking.walk c.take-taken.result c.args.loaded.now c.give.result w.regions
+    let comes = comes_taken c.in-Popping.course c.in-Popping.walk c.take-taken.result c.args.loaded.now c.give.result w.regions
     w.descriptors.items c.give.new.descriptors.items c.take-taken.ensures c.give.ensures in
     let settled = c.settle.ensures in
-    walks_on c.in-Walking.course c.in-Walking.pop_id c.in-Walking.walk _ _ _ _ _ _ c.requires.proceeds c.in-Walking.is (
+    walks_on c.in-Popping.course c.in-Popping.pop_id c.in-Popping.walk _ _ _ _ _ _ c.requires.proceeds c.in-Popping.is (
       c.give.result,
-      (settled.reported, settled.state, settled.queue, rw settled.left (leaves_none _ _), settled.same),
+      (settled.returned, settled.state, settled.queue, rw settled.left (leaves_none _ _), settled.same),
       λ loaded stands. rw settled.left (by_left _ _ _ _ _ _ _ _ (comes loaded stands)),
     )

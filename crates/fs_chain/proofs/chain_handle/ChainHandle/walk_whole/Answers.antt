@@ -1,5 +1,5 @@
 use Rattle.std.proofs.Common.{rules, refl, sym}
-use Rattle.fs_chain.proofs.LoadLemmas.{due, refuses_walk, walks_apart}
+use Rattle.fs_chain.proofs.LoadLemmas.{due, refuses_a_pop, walks_apart}
 use Rattle.fs_chain.proofs.chain_handle.ChainHandle.walk_whole.Goals as goal
 
 pub returns-in-Ok-clause-proceeds : goal.returns-in-Ok-clause-proceeds
@@ -14,5 +14,5 @@ returns-in-Ok-clause-proceeds c = (
 
 pub returns-in-Err-clause-error : goal.returns-in-Err-clause-error
 returns-in-Err-clause-error c =
-    refuses_walk c.args.self.now c.args.queue.now c.args.loaded.now c.in-Err.error c.requires.due c.requires.len c.requires.whole
+    refuses_a_pop c.args.self.now c.args.queue.now c.args.loaded.now c.in-Err.error c.requires.due c.requires.len c.requires.whole
     c.in-Err.ensures.error c.in-Err.ensures.memory

@@ -3,7 +3,7 @@ use Rattle.std.specs.Prelude.{None}
 use Rattle.std.proofs.alloc.Calls.{handle_tells}
 use Rattle.std.proofs.raw_atomic.Walks.{proved_at}
 use Rattle.std_heap.specs.contracts.Global as Heap
-use Rattle.fs_chain_c.proofs.ChainValues.{Chain, chain_in}
+use Rattle.fs_chain_c.proofs.ChainValues.{BoxedChain, chain_in}
 use Rattle.fs_chain_c.proofs.BoxValues.{al, two, two_good}
 use Rattle.fs_chain_c.specs.contracts.handle.ChainBox.empty.{ended, clauses}
 use Rattle.fs_chain_c.specs.contracts.handle.ChainBox.empty.Key.{name as #self}
@@ -33,7 +33,7 @@ empty_spec 𝓤 𝓛 𝓜 𝓡 wired =
     proved_at 𝓛 ended stayed c 𝓜 𝓡 (Goes-dropped 𝓛 0 (plain (λ κs. Heap.the_row)) yes (λ κs x f. refl), tt) #self fn
     (code.unfolded 𝓤 H 𝓜 𝓡 wired) (λ y are.
     let a = y.0.3.0 in let us = y.0.4.0 in let Post = (walk_of 𝓛 ended stayed c).post y in
-    let made : Chain.Denot = record { at = null_ptr; alloc = a; value = None } in
+    let made : BoxedChain.Denot = record { at = null_ptr; alloc = a; value = None } in
     qed 𝓛 ((‵ ftrue ⊛ ‵ (fsep ((Heap.the_row).own_val a us) ftrue)) ∷ raw (emp 𝓤) ∷ []) ∵ split ! $ drop ! $ fsplit ! $ handle_tells al ! a
     us (λ h ws fits.
     move ! (1 ∷ 2 ∷ []) $ drop ! $ drop ! $

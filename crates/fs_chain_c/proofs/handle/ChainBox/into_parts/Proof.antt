@@ -2,7 +2,7 @@
 use Rattle.std.specs.Prelude.{is_some, true}
 use Rattle.std.proofs.raw_atomic.Walks.{proved_at}
 use Rattle.std_heap.specs.contracts.Global as Heap
-use Rattle.fs_chain_c.proofs.ChainValues.{Chain, Work, chain_out, full}
+use Rattle.fs_chain_c.proofs.ChainValues.{BoxedChain, Work, chain_out, full}
 use Rattle.fs_chain_c.proofs.BoxValues.{Boxed, good_ptr, owns_box, parts_in, two, two_good}
 use Rattle.fs_chain_c.specs.contracts.handle.ChainBox.into_parts.{ended, clauses}
 use Rattle.fs_chain_c.specs.contracts.handle.ChainBox.into_parts.Key.{name as #self}
@@ -28,11 +28,11 @@ use denote.Triple.Walked.{says, Stays, stay_dropped, walk_of, ends_at, Goes-drop
 pub into_parts_spec : {M : Type 1} → statement M
 into_parts_spec 𝓤 𝓛 𝓜 𝓡 wired =
     let H = 𝓛.H in let 𝓣 = tables 𝓤 H 𝓜 𝓡 𝓡.env in let c = clauses 𝓛 𝓜.mem 𝓡.returns in let fn = code.function in
-    let stayed : Stays ended.signature.params ended.kept = (stay_dropped (plain (λ κs. Chain)) yes, tt) in
-    proved_at 𝓛 ended stayed c 𝓜 𝓡 (Goes-dropped 𝓛 0 (plain (λ κs. Chain)) yes (λ κs x f. refl), tt) #self fn
+    let stayed : Stays ended.signature.params ended.kept = (stay_dropped (plain (λ κs. BoxedChain)) yes, tt) in
+    proved_at 𝓛 ended stayed c 𝓜 𝓡 (Goes-dropped 𝓛 0 (plain (λ κs. BoxedChain)) yes (λ κs x f. refl), tt) #self fn
     (code.unfolded 𝓤 H 𝓜 𝓡 wired) (λ y are.
     let d = y.0.3.0 in let us = y.0.4.0 in let Post = (walk_of 𝓛 ended stayed c).post y in
-    qed 𝓛 ((‵ ftrue ⊛ ‵ (fsep (Chain.own_val d us) ftrue)) ∷ raw (fact 𝓤 (is_some d.value ≡ true)) ∷ []) ∵
+    qed 𝓛 ((‵ ftrue ⊛ ‵ (fsep (BoxedChain.own_val d us) ftrue)) ∷ raw (fact 𝓤 (is_some d.value ≡ true)) ∷ []) ∵
     move ! (1 ∷ []) $ heard ! _ (λ is. split ! $ drop ! $ fsplit ! $ chain_out ! d us
     (λ h ws fits. full ! d is (λ x some.
     move ! (0 ∷ 1 ∷ []) $

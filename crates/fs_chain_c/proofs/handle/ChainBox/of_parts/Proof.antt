@@ -2,7 +2,7 @@
 use Rattle.std.specs.Prelude.{Some}
 use Rattle.std.proofs.raw_atomic.Walks.{proved_at}
 use Rattle.std_heap.specs.contracts.Global as Heap
-use Rattle.fs_chain_c.proofs.ChainValues.{Chain, Work, chain_in}
+use Rattle.fs_chain_c.proofs.ChainValues.{BoxedChain, Work, chain_in}
 use Rattle.fs_chain_c.proofs.BoxValues.{Boxed, good_ptr, owns_box, parts_out, two, two_good}
 use Rattle.fs_chain_c.specs.contracts.handle.ChainBox.of_parts.{ended, clauses}
 use Rattle.fs_chain_c.specs.contracts.handle.ChainBox.of_parts.Key.{name as #self}
@@ -31,7 +31,7 @@ of_parts_spec 𝓤 𝓛 𝓜 𝓡 wired =
     proved_at 𝓛 ended stayed c 𝓜 𝓡 (Goes-dropped 𝓛 0 (plain (λ κs. Boxed Work)) yes (λ κs x f. refl), tt) #self fn
     (code.unfolded 𝓤 H 𝓜 𝓡 wired) (λ y are.
     let d = y.0.3.0 in let us = y.0.4.0 in let Post = (walk_of 𝓛 ended stayed c).post y in
-    let made : Chain.Denot = record { at = d.ptr; alloc = d.alloc; value = Some d.value } in
+    let made : BoxedChain.Denot = record { at = d.ptr; alloc = d.alloc; value = Some d.value } in
     qed 𝓛 ((‵ ftrue ⊛ ‵ (fsep ((Boxed Work).own_val d us) ftrue)) ∷ raw (emp 𝓤) ∷ []) ∵ split ! $ drop ! $ fsplit ! $ parts_out Work ! d us
     (λ h ws fits.
     move ! (2 ∷ 3 ∷ []) $ drop ! $ drop ! $

@@ -5,7 +5,7 @@ use Rattle.std_heap.specs.contracts.Global as Heap
 use Rattle.core.proofs.alloc.Shapes.{after}
 use Rattle.core.proofs.option.Made.{Some-of, none_of}
 use Rattle.std_alloc.proofs.ResultValues.{and_tt}
-use Rattle.fs_chain_c.proofs.IotlbValues.{Chain, Work, chain_out, either, three, three_good}
+use Rattle.fs_chain_c.proofs.IotlbValues.{BoxedChain, Work, chain_out, either, three, three_good}
 use Rattle.fs_chain_c.proofs.BoxValues.{Boxed, good_ptr, owns_box, parts_in, two, two_good}
 use Rattle.fs_chain_c.specs.contracts.iotlb_handle.FsIotlb.into_parts.{ended, clauses}
 use Rattle.fs_chain_c.specs.contracts.iotlb_handle.FsIotlb.into_parts.Key.{name as #self}
@@ -32,14 +32,14 @@ use denote.Triple.Walked.{says, Stays, stay_dropped, walk_of, ends_at, Goes-drop
 pub into_parts_spec : {M : Type 1} → statement M
 into_parts_spec 𝓤 𝓛 𝓜 𝓡 wired =
     let H = 𝓛.H in let 𝓣 = tables 𝓤 H 𝓜 𝓡 𝓡.env in let c = clauses 𝓛 𝓜.mem 𝓡.returns in let fn = code.function in
-    let stayed : Stays ended.signature.params ended.kept = (stay_dropped (plain (λ κs. Chain)) yes, tt) in
-    proved_at 𝓛 ended stayed c 𝓜 𝓡 (Goes-dropped 𝓛 0 (plain (λ κs. Chain)) yes (λ κs x f. refl), tt) #self fn
+    let stayed : Stays ended.signature.params ended.kept = (stay_dropped (plain (λ κs. BoxedChain)) yes, tt) in
+    proved_at 𝓛 ended stayed c 𝓜 𝓡 (Goes-dropped 𝓛 0 (plain (λ κs. BoxedChain)) yes (λ κs x f. refl), tt) #self fn
     (code.unfolded 𝓤 H 𝓜 𝓡 wired) (λ y are.
     let d = y.0.3.0 in
     let us = y.0.4.0 in
     let Post = (walk_of 𝓛 ended stayed c).post y in
     let Out : RattleType = type_at ended.signature.result y.0.0 in
-    qed 𝓛 ((‵ ftrue ⊛ ‵ (fsep (Chain.own_val d us) ftrue)) ∷ raw (emp 𝓤) ∷ []) ∵ split ! $ drop ! $ fsplit ! $ chain_out ! d us
+    qed 𝓛 ((‵ ftrue ⊛ ‵ (fsep (BoxedChain.own_val d us) ftrue)) ∷ raw (emp 𝓤) ∷ []) ∵ split ! $ drop ! $ fsplit ! $ chain_out ! d us
     (λ h ws fits. either ! d
     (λ none zero.
     move ! (1 ∷ 2 ∷ []) $ drop ! $ drop ! $

@@ -16,7 +16,7 @@ returns-clause-returns g c m has host =
     (c.self.inside.server.options.0, c.self.inside.server.fs)
     c.args.taken.now c.args.self.now c.args.reply.now c.give_back.result
     c.self.view_is there (λ fetched taken. c.give_back.ensures.stored m fetched host taken)
-    (λ fetched taken. c.give_back.ensures.reported m fetched host taken) c.give_back.ensures.queue has
+    (λ fetched taken. c.give_back.ensures.wanted m fetched host taken) c.give_back.ensures.queue has
 
 pub returns-clause-queues : goal.returns-clause-queues
 returns-clause-queues g c =

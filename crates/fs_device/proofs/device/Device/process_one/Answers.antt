@@ -44,14 +44,14 @@ returns-clause-step g c =
     let taken = rw c.if-not-waits.false at c.in_ok-waits.ensures.takes server.options.0 server.page_size server.fs in
     let has = taken.0 in
     let between = c.take_from.new.queues.items in
-    let preserved : between ≡ c.self.inside.queues.items = ap (λ (s : State g.row.F.Denot). s.queues) taken.1 in
+    let kept : between ≡ c.self.inside.queues.items = ap (λ (s : State g.row.F.Denot). s.queues) taken.1 in
     let there = rw c.if-not-waits.false at c.in_ok-waits.ensures.there in
     let at = slice_get_read between (length between) c.args.queue _ refl there c.index_mut.ensures.value in
     rw (← c.self.view_is, over, c.serve.ensures.page_size)
     (exchanges g.F.FileSystemBase.may fixed m _ c.self.inside.queues.items between c.args.queue
     c.index_mut.result.now c.give_back-notify.new.self
     (server.options.0, server.fs) (server_state c.serve.new.server) c.take_from.new.taken has (exchange_of c.in_ok-exchange.exchange)
-    c.give_back-notify.result preserved at
+    c.give_back-notify.result kept at
     (c.in_ok-exchange.ensures.exchange m has.queue has.fetched has.taken (c.in_ok-request.ensures.bytes m has.fetched host has.taken.chain))
     (λ taken. rw c.deref.ensures.value at c.give_back-notify.ensures.stored m has.fetched host taken)
-    (λ taken. c.give_back-notify.ensures.reported m has.fetched host taken) c.give_back-notify.ensures.queue)
+    (λ taken. c.give_back-notify.ensures.wanted m has.fetched host taken) c.give_back-notify.ensures.queue)

@@ -32,7 +32,7 @@ loop-preserved g c =
       count = Prim.search rules;
       most = omega arith;
       room = Prim.search rules;
-      preserved = Prim.search rules;
+      kept = Prim.search rules;
       run = rw turns (carries_on g.F.FileSystemBase.may _ _ _ c.args.queue c.args.most _ _ (map exchanged_of c.loop.done.items)
           (exchanged_of c.in-Ok-Some.exchanged) _ c.loop.invariant.run
           (omega (arith, c.loop-test.true)) (rw c.in-Ok-Some.field-0-is at c.in-Ok-Some.ensures.step.1));
@@ -46,7 +46,7 @@ returns-clause-run g c = (
 
 pub process_one-requires : goal.process_one-requires
 process_one-requires g c = g.met.M.GuestMemory.by_shape c.args.mem.now (g.H.HostBlocks.host c.args.host.now)
-    (g.H.HostBlocks.host c.loop.host) c.loop.invariant.preserved c.requires
+    (g.H.HostBlocks.host c.loop.host) c.loop.invariant.kept c.requires
 
 pub returns-then-most-gt0-clause-run : goal.returns-then-most-gt0-clause-run
 returns-then-most-gt0-clause-run g c =

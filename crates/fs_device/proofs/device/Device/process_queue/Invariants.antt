@@ -11,7 +11,7 @@ invariant-loop g l = record {
   count : length l.done.items ≡ l.counter;
   most : l.counter ≤ l.most;
   room : l.most ≤ vec_capacity l.done;
-  preserved : shape (g.H.HostBlocks.host l.host) ≡ shape (g.H.HostBlocks.host l.initial.host);
+  kept : shape (g.H.HostBlocks.host l.host) ≡ shape (g.H.HostBlocks.host l.initial.host);
   run : (rest : List (Exchange × Bool)) (refused : Option DeviceError) (after : State _) →
       KickLists g.F.FileSystemBase.may (state_of (g.M.GuestMemory.memory l.mem (g.H.HostBlocks.host l.host)) l.self) l.queue
       (l.most - l.counter) rest refused after →

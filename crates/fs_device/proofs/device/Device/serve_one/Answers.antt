@@ -9,7 +9,7 @@ use Rattle.plain_machine.specs.declared.error.DeviceError.TheVariants as device
 use Rattle.fs_device.specs.DeviceView.{server_state}
 use Rattle.plain_machine.specs.Step.{Idle, Refused, State}
 use Rattle.fs_device.specs.ReplyFront.{front_bytes, replied}
-use Rattle.fs_device.proofs.ReadingLemmas.{reported_return}
+use Rattle.fs_device.proofs.ReadingLemmas.{returned_step_of}
 use Rattle.fs_device.proofs.StepLemmas.{Fixed, lacks_taken}
 use Rattle.fs_device.proofs.device.Device.serve_one.Goals as goal
 
@@ -55,22 +55,22 @@ returns-clause-step g c =
     let has = taken.0 in
     let place = c.take_from.new.taken in
     let between = c.take_from.new.queues.items in
-    let preserved : between ≡ c.self.inside.queues.items = ap (λ (s : State g.row.F.Denot). s.queues) taken.1 in
+    let kept : between ≡ c.self.inside.queues.items = ap (λ (s : State g.row.F.Denot). s.queues) taken.1 in
     let there = rw c.if-not-waits.false at c.in_ok-waits.ensures.there in
     let at = slice_get_read between (length between) c.args.queue _ refl there c.index_mut.ensures.value in
     let answered = c.in_ok-answered.answered in
     let new = g.H.HostBlocks.host c.answer_front.new.host in
-    let reported = c.in_ok-answered.ensures.exchange m has.queue has.fetched host has.taken in
-    let put = subst (λ (h : Host). PutFrontLast h new (chain_places place.chain) (front_bytes answered.front) reported.reply)
-    (sym host) reported.put in
-    let fronted = subst (λ (bytes : List ℕ). PutFrontLast m.host new (chain_places place.chain) bytes reported.reply)
+    let exchanged = c.in_ok-answered.ensures.exchange m has.queue has.fetched host has.taken in
+    let put = subst (λ (h : Host). PutFrontLast h new (chain_places place.chain) (front_bytes answered.front) exchanged.reply)
+    (sym host) exchanged.put in
+    let fronted = subst (λ (bytes : List ℕ). PutFrontLast m.host new (chain_places place.chain) bytes exchanged.reply)
     (sym c.bytes-front.ensures) put in
-    reported_return g.F.FileSystemBase.may fixed m _ _ c.self.inside.queues.items between c.args.queue c.index_mut.result.now
+    returned_step_of g.F.FileSystemBase.may fixed m _ _ c.self.inside.queues.items between c.args.queue c.index_mut.result.now
     c.give_back_front-notify.new.self
     (server.options.0, server.fs) (server_state c.answer_front.new.server)
-    place has (replied place.head has.fetched reported.reply answered.fault) c.give_back_front-notify.result _ _ _ preserved at
-    reported.served
-    (λ taken. c.give_back_front-notify.ensures.stored m has.fetched reported.reply fronted reported.len taken)
-    (λ taken. c.give_back_front-notify.ensures.reported m has.fetched reported.reply fronted taken) c.give_back_front-notify.ensures.queue
+    place has (replied place.head has.fetched exchanged.reply answered.fault) c.give_back_front-notify.result _ _ _ kept at
+    exchanged.served
+    (λ taken. c.give_back_front-notify.ensures.stored m has.fetched exchanged.reply fronted exchanged.len taken)
+    (λ taken. c.give_back_front-notify.ensures.wanted m has.fetched exchanged.reply fronted taken) c.give_back_front-notify.ensures.queue
     c.self.view_is over c.answer_front.ensures.page_size c.head-head.ensures
-    (c.request_len-request_len.ensures m has.fetched has.taken.chain) (sym reported.len) refl refl
+    (c.request_len-request_len.ensures m has.fetched has.taken.chain) (sym exchanged.len) refl refl

@@ -2,7 +2,7 @@ use Rattle.std.proofs.Common.{refl}
 use Rattle.vm_bitmaps.specs.Pages.{pages_of}
 use Rattle.plain_machine.specs.Run.{effect}
 use Rattle.fs_device.proofs.LayoutLemmas.{no_bytes, page_count-is}
-use Rattle.fs_device.proofs.MappingLemmas.{preserved_behind}
+use Rattle.fs_device.proofs.MappingLemmas.{kept_behind}
 use Rattle.fs_device.proofs.machine.Machine.new_block.Goals as goal
 
 pub returns-then-len-eq0 : goal.returns-then-len-eq0
@@ -11,7 +11,7 @@ returns-then-len-eq0 g c = rw c.if-len-eq0.true refl
 
 pub invariant_of-self : goal.invariant_of-self
 invariant_of-self g c = record {
-  held = preserved_behind (pages_of 4096) c.args.len c.args.self.now.host c.new_block.new.self c.args.self.now.mem.backend _
+  held = kept_behind (pages_of 4096) c.args.len c.args.self.now.host c.new_block.new.self c.args.self.now.mem.backend _
       c.args.self.now.mem.io_bitmap c.new_block.result
       c.new_block.ensures.ok c.new_block.ensures.err c.args.self.now.held;
 }

@@ -10,7 +10,7 @@ returns-clause-stored g c m fetched host taken =
     c.give_back_front.ensures.stored m fetched c.args.reply.now
     (ap (λ (h : Host). put_all h (zip (chain_places c.args.taken.now.chain) c.args.reply.now)) (sym host)) refl taken
 
-pub returns-clause-reported : goal.returns-clause-reported
-returns-clause-reported g c m fetched host taken =
-    c.give_back_front.ensures.reported m fetched c.args.reply.now
+pub returns-clause-wanted : goal.returns-clause-wanted
+returns-clause-wanted g c m fetched host taken =
+    c.give_back_front.ensures.wanted m fetched c.args.reply.now
     (ap (λ (h : Host). put_all h (zip (chain_places c.args.taken.now.chain) c.args.reply.now)) (sym host)) taken

@@ -2,7 +2,7 @@ use Rattle.std.proofs.Common.{List, ap, map, refl, ◌∙◌}
 use Rattle.vm_memory_core.specs.Window.{Window, byte_in, places}
 use Rattle.fs_queue.specs.Returning.{notifies}
 use Rattle.fs_queue.specs.WalkingView.{at_position}
-use Rattle.fs_queue.proofs.ReturnLemmas.{put_back_is, returned_is, reported_is, preserved_tables, used_bytes_are}
+use Rattle.fs_queue.proofs.ReturnLemmas.{put_back_is, returned_is, notice_is, kept_tables, used_bytes_are}
 use Rattle.fs_queue.proofs.queue.Queue.give_back_front.Goals as goal
 
 pub returns-clause-stored : goal.returns-clause-stored
@@ -13,11 +13,11 @@ returns-clause-stored g c m fetched reply put long taken =
     c.new-back.ensures.stores
     c.used_bytes.ensures)))) c.write_windows.ensures.stored
 
-pub returns-clause-reported : goal.returns-clause-reported
-returns-clause-reported g c m fetched reply put taken =
+pub returns-clause-wanted : goal.returns-clause-wanted
+returns-clause-wanted g c m fetched reply put taken =
     c.notifies.ensures
-    ∙ reported_is m (g.H.HostBlocks.host c.write_windows.new.self) c.args.self.now fetched c.args.taken.now _ _
-    (preserved_tables m _ _ _ _ _ refl (c.write_reply.ensures.stored ∙ put) c.write_windows.ensures.stored)
+    ∙ notice_is m (g.H.HostBlocks.host c.write_windows.new.self) c.args.self.now fetched c.args.taken.now _ _
+    (kept_tables m _ _ _ _ _ refl (c.write_reply.ensures.stored ∙ put) c.write_windows.ensures.stored)
     taken c.flags_windows.ensures c.read_windows.ensures
 
 pub returns-clause-puts : goal.returns-clause-puts

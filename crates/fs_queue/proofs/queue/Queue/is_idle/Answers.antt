@@ -15,7 +15,7 @@ returns-in-Idle g c = λ limit.
     let q = at_position c.self.inside.layout c.self.inside.position in
     let same : q ≡ c.args.self.now = rw (← c.self.view_is, c.if-self.false) refl in
     subst (λ s. true ≡ is_idle (offer m limit s)) same
-    (sym (ring_is_idle m limit q (stage_of c.walk_ring.result) refl c.walk_ring.ensures.reported
+    (sym (ring_is_idle m limit q (stage_of c.walk_ring.result) refl c.walk_ring.ensures.next
     ∙ ap (λ w. reports_idle (stage_of w)) c.in-Idle.is))
 
 pub returns-in_default : goal.returns-in_default
@@ -24,5 +24,5 @@ returns-in_default g c = λ limit.
     let q = at_position c.self.inside.layout c.self.inside.position in
     let same : q ≡ c.args.self.now = rw (← c.self.view_is, c.if-self.false) refl in
     subst (λ s. false ≡ is_idle (offer m limit s)) same
-    (sym (ring_is_idle m limit q (stage_of c.walk_ring.result) refl c.walk_ring.ensures.reported
+    (sym (ring_is_idle m limit q (stage_of c.walk_ring.result) refl c.walk_ring.ensures.next
     ∙ waits_unless_idle c.walk_ring.result c.in_default.not-Idle))

@@ -25,12 +25,12 @@ returns-in_default-clause-reports c = λ index len asks.
     sym (ap (λ (o : Option (List ℕ)). HasResult (next_avail (holding (index_load q (Some index) ∷ entry_load q o ∷ [])) q)) c.in_default.is
     ∙ ap HasResult (entry_reports q index None len (begins c.args.self.layout c.args.self.position) tt asks))
 
-reported : (l : QueueLayout) (position : ℕ) (index bs : List ℕ) (came : Option (List ℕ)) (n : ℕ) → came ≡ Some bs → length bs ≡ 2 →
+found : (l : QueueLayout) (position : ℕ) (index bs : List ℕ) (came : Option (List ℕ)) (n : ℕ) → came ≡ Some bs → length bs ≡ 2 →
     n ≡ from_le_bytes w16 bs → length index ≡ 2 →
     asks_entry (next_avail (holding (index_load (at_position l position) (Some index) ∷ [])) (at_position l position)) ≡ true →
     entry_shows (at_position l position) true n ≡ next_avail
     (holding (index_load (at_position l position) (Some index) ∷ entry_load (at_position l position) came ∷ [])) (at_position l position)
-reported l position index bs came n is two read len asks =
+found l position index bs came n is two read len asks =
     let q = at_position l position in
     sym (ap (λ (o : Option (List ℕ)). next_avail (holding (index_load q (Some index) ∷ entry_load q o ∷ [])) q) is
     ∙ entry_reports q index (Some bs) len (begins l position) (two, ends l position) asks
@@ -40,7 +40,7 @@ pub returns-then-head-size-clause-reports : goal.returns-then-head-size-clause-r
 returns-then-head-size-clause-reports c = λ index len asks.
     let past : nat_le c.args.self.layout.size c.le16_number-head.result ≡ true = le-leb _ _ (omega arith) in
     ap (λ b. HasResult (if b then Refused HeadOutOfTable else Head c.le16_number-head.result)) (sym past)
-    ∙ ap HasResult (reported c.args.self.layout c.args.self.position index c.in-Some.bytes c.args.came c.le16_number-head.result
+    ∙ ap HasResult (found c.args.self.layout c.args.self.position index c.in-Some.bytes c.args.came c.le16_number-head.result
     c.in-Some.is
     (omega arith) c.le16_number-head.ensures len asks)
 
@@ -48,6 +48,6 @@ pub returns-else-head-size-clause-reports : goal.returns-else-head-size-clause-r
 returns-else-head-size-clause-reports c = λ index len asks.
     let inside : nat_le c.args.self.layout.size c.le16_number-head.result ≡ false = lt-leb _ _ (omega arith) in
     ap (λ b. HasResult (if b then Refused HeadOutOfTable else Head c.le16_number-head.result)) (sym inside)
-    ∙ ap HasResult (reported c.args.self.layout c.args.self.position index c.in-Some.bytes c.args.came c.le16_number-head.result
+    ∙ ap HasResult (found c.args.self.layout c.args.self.position index c.in-Some.bytes c.args.came c.le16_number-head.result
     c.in-Some.is
     (omega arith) c.le16_number-head.ensures len asks)

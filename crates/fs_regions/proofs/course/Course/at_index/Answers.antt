@@ -43,4 +43,4 @@ pub returns-in_default : goal.returns-in_default
 returns-in_default c = λ index stands none.
     let reports =
     reports_alone (places_in c.args.regions.now) (queue_of c.args.self.now) index c.args.walk stands c.in_default.not-RingEntry in
-    c.reported.ensures (record nothing { index = index }) reports none
+    c.step_of.ensures (record nothing { index = index }) reports none

@@ -26,4 +26,4 @@ returns-in-None c = λ none.
     let no_miss = first_of_one m (avail_index_at q) c.address.result 2 Read c.miss.result at c.miss.ensures ∙ c.in-None.is in
     let stands = after_index m q w.layout w.position None c.give.result c.requires.at refl (λ _. c.requires.away) (λ _. no_miss)
     c.give.ensures.stage c.give.ensures.same c.give.ensures.chain in
-    c.reported.ensures nothing (reports_alone m q None c.give.result stands (without_entry q c.give.result stands.stage)) none
+    c.step_of.ensures nothing (reports_alone m q None c.give.result stands (without_entry q c.give.result stands.stage)) none

@@ -9,7 +9,7 @@ use Rattle.fs_regions.specs.Misses.{OfRingEntry}
 use Rattle.fs_regions.specs.Places.{places_in}
 use Rattle.fs_regions.specs.Walks.{nothing, queue_of}
 use Rattle.fs_regions.proofs.Missing.{first_of_one}
-use Rattle.fs_regions.proofs.Steps.{begins_of, entry_reported, reports_both}
+use Rattle.fs_regions.proofs.Steps.{begins_of, entry_given, reports_both}
 use Rattle.fs_regions.proofs.course.Course.without_ring_entry.Goals as goal
 
 pub returns-in-Some : goal.returns-in-Some
@@ -29,8 +29,8 @@ returns-in-None c = λ index same long asks none.
     let at = c.address.ensures.at ∙ ap ring_entry_at same in
     let no_miss = first_of_one m (ring_entry_at q) c.address.result 2 Read c.miss.result at c.miss.ensures ∙ c.in-None.is in
     let away : reach m Read (ring_entry_at q) 2 ≡ false = ap (λ (x : Queue). reach m Read (ring_entry_at x) 2) (sym same) ∙ c.requires in
-    c.reported.ensures (record nothing { index = Some index })
+    c.step_of.ensures (record nothing { index = Some index })
     (reports_both m q (Some index) None c.give.result (eq-eqb (length index) 2 long) asks refl (λ there. absurd (cc)) (λ _. away)
     (λ there. absurd (cc)) (λ _. no_miss) (begins_of w.layout w.position q c.give.result same c.give.ensures.chain)
-    (entry_reported (at_position w.layout w.position) q (Some index) None index c.give.result same refl long asks c.give.ensures.reports))
+    (entry_given (at_position w.layout w.position) q (Some index) None index c.give.result same refl long asks c.give.ensures.reports))
     none

@@ -24,9 +24,9 @@ returns-clause-gathered g c =
     let p = c.open.result in
     let share = c.args.share.pass in
     let h = c.args.harvest in
-    let reported : c.into_pass.result ≡ share = c.into_pass.ensures ∙ ap (λ (s : Portion). s.pass) c.is_counted.ensures.share in
+    let pass_is : c.into_pass.result ≡ share = c.into_pass.ensures ∙ ap (λ (s : Portion). s.pass) c.is_counted.ensures.share in
     let taken : c.take_in.new.self.pass.counts ≡ both_passes h.pass.counts share.counts =
-    ap (λ (n : Harvest). n.pass.counts) c.take_in.ensures.harvest ∙ ap (λ (q : Pass). both_passes h.pass.counts q.counts) reported in
+    ap (λ (n : Harvest). n.pass.counts) c.take_in.ensures.harvest ∙ ap (λ (q : Pass). both_passes h.pass.counts q.counts) pass_is in
     let own : length c.take_in.new.self.pass.counts.pages ≡ h.bitmap.len =
     c.take_in.ensures.own.1 ∙ ap (λ (n : Harvest). n.bitmap.len) c.take_in.ensures.harvest in
     let mine : length h.pass.counts.pages ≡ h.bitmap.len =
@@ -47,18 +47,18 @@ pub returns-clause-settles : goal.returns-clause-settles
 returns-clause-settles g c =
     let share = c.args.share.pass in
     let h = c.args.harvest in
-    let reported : c.into_pass.result ≡ share = c.into_pass.ensures ∙ ap (λ (s : Portion). s.pass) c.is_counted.ensures.share in
+    let pass_is : c.into_pass.result ≡ share = c.into_pass.ensures ∙ ap (λ (s : Portion). s.pass) c.is_counted.ensures.share in
     let taken : c.take_in.new.self.pass.counts ≡ both_passes h.pass.counts share.counts =
-    ap (λ (n : Harvest). n.pass.counts) c.take_in.ensures.harvest ∙ ap (λ (q : Pass). both_passes h.pass.counts q.counts) reported in
+    ap (λ (n : Harvest). n.pass.counts) c.take_in.ensures.harvest ∙ ap (λ (q : Pass). both_passes h.pass.counts q.counts) pass_is in
     subst (λ (v : PageCounts). SettlesAll v c.gather_all.new.words) taken c.gather_all.ensures.whole
 
 pub returns-clause-left : goal.returns-clause-left
 returns-clause-left g c =
     let share = c.args.share.pass in
     let h = c.args.harvest in
-    let reported : c.into_pass.result ≡ share = c.into_pass.ensures ∙ ap (λ (s : Portion). s.pass) c.is_counted.ensures.share in
+    let pass_is : c.into_pass.result ≡ share = c.into_pass.ensures ∙ ap (λ (s : Portion). s.pass) c.is_counted.ensures.share in
     let taken : c.take_in.new.self.pass.counts ≡ both_passes h.pass.counts share.counts =
-    ap (λ (n : Harvest). n.pass.counts) c.take_in.ensures.harvest ∙ ap (λ (q : Pass). both_passes h.pass.counts q.counts) reported in
+    ap (λ (n : Harvest). n.pass.counts) c.take_in.ensures.harvest ∙ ap (λ (q : Pass). both_passes h.pass.counts q.counts) pass_is in
     let own : length c.take_in.new.self.pass.counts.pages ≡ h.bitmap.len =
     c.take_in.ensures.own.1 ∙ ap (λ (n : Harvest). n.bitmap.len) c.take_in.ensures.harvest in
     let mine : length h.pass.counts.pages ≡ h.bitmap.len =

@@ -17,10 +17,10 @@ pub returns-then-brought_nodes-clause-looked_up : goal.returns-then-brought_node
 returns-then-brought_nodes-clause-looked_up c = λ nodes s command list es d is holds dot.
     let self = c.args.self in
     let reply = c.entries_reply.ensures in
-    let reported = held_reply self list es c.args.error holds (sym c.brought_nodes.ensures ∙ c.if-brought_nodes.true) in
+    let has_nodes = held_reply self list es c.args.error holds (sym c.brought_nodes.ensures ∙ c.if-brought_nodes.true) in
     rw (reply.front, reply.len)
     (look_up_failed s self command list es d c.args.error is holds nodes dot
-    ∙ sym (ap (by_reply (first_call command ∷ (look_ups command es ++ look_up command d)) s.options) reported))
+    ∙ sym (ap (by_reply (first_call command ∷ (look_ups command es ++ look_up command d)) s.options) has_nodes))
 
 pub returns-clause-alone : goal.returns-clause-alone
 returns-clause-alone c = λ none s command list is. rw c.error.ensures (fails_alone s c.args.self command list c.args.error is)
@@ -28,7 +28,7 @@ returns-clause-alone c = λ none s command list is. rw c.error.ensures (fails_al
 pub returns-clause-looked_up : goal.returns-clause-looked_up
 returns-clause-looked_up c = λ nodes s command list es d is holds dot.
     let self = c.args.self in
-    let reported = error_reply self list es c.args.error holds (sym c.brought_nodes.ensures ∙ c.if-brought_nodes.false) in
+    let has_nodes = error_reply self list es c.args.error holds (sym c.brought_nodes.ensures ∙ c.if-brought_nodes.false) in
     rw c.error.ensures
     (look_up_failed s self command list es d c.args.error is holds nodes dot
-    ∙ sym (ap (by_reply (first_call command ∷ (look_ups command es ++ look_up command d)) s.options) reported))
+    ∙ sym (ap (by_reply (first_call command ∷ (look_ups command es ++ look_up command d)) s.options) has_nodes))

@@ -6,15 +6,15 @@ use Rattle.server_phases.proofs.Fronts.{data_behind}
 use Rattle.server_phases.proofs.Reporting.{has_asker, placed_by}
 use Rattle.server_phases.proofs.session.Session.ask.Goals as goal
 
-pub returns-in-Ok-clause-reported : goal.returns-in-Ok-clause-reported
-returns-in-Ok-clause-reported c =
+pub returns-in-Ok-clause-decoded : goal.returns-in-Ok-clause-decoded
+returns-in-Ok-clause-decoded c =
     rw (
       meaning_head c.args.self.now.options.0 c.args.room c.args.request.now _ c.in-Ok.head c.in-Ok.ensures.reads,
       sym (data_behind c.args.request.now _ c.in-Ok.head c.in-Ok.ensures.reads),
-    ) c.ask_head.ensures.reported
+    ) c.ask_head.ensures.decoded
 
-pub returns-in-Err-clause-reported : goal.returns-in-Err-clause-reported
-returns-in-Err-clause-reported c =
+pub returns-in-Err-clause-decoded : goal.returns-in-Err-clause-decoded
+returns-in-Err-clause-decoded c =
     rw
     (meaning_fault c.args.self.now.options.0 c.args.room c.args.request.now c.in-Err.error c.in-Err.ensures.reads, c.in-Err.ensures.fault)
     refl

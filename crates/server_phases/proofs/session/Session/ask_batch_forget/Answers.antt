@@ -2,19 +2,19 @@ use Rattle.std.proofs.Common.{◌++◌, ◌+◌, ◌∙◌, List, ℕ, append_as
 use Rattle.std.proofs.lemmas.List.{length-append}
 use Rattle.server_meanings.specs.Serving.{setting}
 use Rattle.server_phases.specs.Asking.{DecodedStandsIn}
-use Rattle.server_phases.proofs.Reporting.{fault_reported}
+use Rattle.server_phases.proofs.Reporting.{fault_decoded}
 use Rattle.server_phases.proofs.session.Session.ask_batch_forget.Goals as goal
 
-pub returns-in-Pairs-clause-reported : goal.returns-in-Pairs-clause-reported
-returns-in-Pairs-clause-reported c = rw (c.in-Pairs.ensures.reads c.args.head.now c.args.self.now.options.0 c.args.room).0
-    (c.ask_pairs.ensures.reported (drop 40 c.args.source.bytes.now))
+pub returns-in-Pairs-clause-decoded : goal.returns-in-Pairs-clause-decoded
+returns-in-Pairs-clause-decoded c = rw (c.in-Pairs.ensures.reads c.args.head.now c.args.self.now.options.0 c.args.room).0
+    (c.ask_pairs.ensures.decoded (drop 40 c.args.source.bytes.now))
 
-pub returns-in-Error-clause-reported : goal.returns-in-Error-clause-reported
-returns-in-Error-clause-reported c = c.refused.ensures.reported c.args.self.now.page_size c.args.self.now.options.0 _ _
+pub returns-in-Error-clause-decoded : goal.returns-in-Error-clause-decoded
+returns-in-Error-clause-decoded c = c.refused.ensures.decoded c.args.self.now.page_size c.args.self.now.options.0 _ _
     (c.in-Error.ensures.reads c.args.head.now c.args.self.now.options.0 c.args.room)
 
-pub returns-in-Fault-clause-reported : goal.returns-in-Fault-clause-reported
-returns-in-Fault-clause-reported c = fault_reported (setting c.args.self.now.page_size c.args.self.now.options.0 c.args.room) _ _
+pub returns-in-Fault-clause-decoded : goal.returns-in-Fault-clause-decoded
+returns-in-Fault-clause-decoded c = fault_decoded (setting c.args.self.now.page_size c.args.self.now.options.0 c.args.room) _ _
     (c.in-Fault.ensures.reads c.args.head.now c.args.self.now.options.0 c.args.room).0
 
 pub returns-in-Pairs-clause-places : goal.returns-in-Pairs-clause-places

@@ -1,8 +1,8 @@
 use Rattle.server_phases.proofs.session.Session.ask_front.Goals as goal
 
-pub returns-clause-reported : goal.returns-clause-reported
-returns-clause-reported c =
-    λ request len is. c.ask_write_front.ensures.reported c.args.self.now.page_size c.args.self.now.options.0 request len is
+pub returns-clause-decoded : goal.returns-clause-decoded
+returns-clause-decoded c =
+    λ request len is. c.ask_write_front.ensures.decoded c.args.self.now.page_size c.args.self.now.options.0 request len is
 
 pub returns-clause-asker : goal.returns-clause-asker
 returns-clause-asker c = λ request len is. c.ask_write_front.ensures.asker request is

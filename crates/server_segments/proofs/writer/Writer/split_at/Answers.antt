@@ -4,7 +4,7 @@ use Rattle.fuse_fs.specs.Lengths.{filled, past, up_to}
 use Rattle.server_segments.specs.SegmentPlaces.{bytes_before, IsIn}
 use Rattle.server_segments.specs.ReaderAndWriterView.{WriterView}
 use Rattle.fuse_fs.proofs.Lengths.{sum-past, sum-up_to, filled-past, filled-up_to}
-use Rattle.server_segments.proofs.Placing.{behind_is, before_is, preserved_before}
+use Rattle.server_segments.proofs.Placing.{behind_is, before_is, kept_before}
 use Rattle.server_segments.proofs.writer.Writer.split_at.Goals as goal
 
 pub over-requires-clause-sum : goal.over-requires-clause-sum
@@ -40,13 +40,13 @@ invariant_of-self-2 c =
     let is : IsIn i.segments.items cut.segment cut.used = rw c.deref.ensures at c.behind-cut.ensures.inside in
     let fits : vec_len i.bytes + c.args.offset ≤ sum i.segments.items =
     omega (arith, c.if-free-offset.false, c.len.ensures, c.self.invariant.0, c.self.invariant.3) in
-    let preserved : c.cut_off.new.segments.items ≡ take cut.segment i.segments.items ++ filled (cut.used ∷ []) =
+    let kept : c.cut_off.new.segments.items ≡ take cut.segment i.segments.items ++ filled (cut.used ∷ []) =
     c.cut_off.ensures.items ∙ ap (λ s. take cut.segment s ++ filled (cut.used ∷ [])) c.reserve.ensures.items in
     let whole = before_is i.segments.items c.cut_off.new.segments.items cut.segment cut.used (vec_len i.bytes + c.args.offset) is
-    c.self.invariant.4 at fits preserved in
+    c.self.invariant.4 at fits kept in
     let all = ap sum whole ∙ sum-up_to (vec_len i.bytes + c.args.offset) i.segments.items in
-    let before = preserved_before i.segments.items c.cut_off.new.segments.items cut.segment cut.used i.place.segment i.place.used is
-    c.behind-cut.ensures.after preserved in
+    let before = kept_before i.segments.items c.cut_off.new.segments.items cut.segment cut.used i.place.segment i.place.used is
+    c.behind-cut.ensures.after kept in
     let handed = c.in_ok-segments.ensures.len in (
       omega (arith, c.len-2.ensures),
       omega (arith, c.len.ensures, c.len-2.ensures, c.if-free-offset.false, c.self.invariant.0, c.self.invariant.1),
@@ -66,10 +66,10 @@ returns-clause-segments c =
     let is : IsIn i.segments.items cut.segment cut.used = rw c.deref.ensures at c.behind-cut.ensures.inside in
     let fits : length i.bytes.items + c.args.offset ≤ sum i.segments.items =
     omega (arith, c.if-free-offset.false, c.len.ensures, c.self.invariant.0, c.self.invariant.3, i.bytes.ok.0) in
-    let preserved : c.cut_off.new.segments.items ≡ take cut.segment i.segments.items ++ filled (cut.used ∷ []) =
+    let kept : c.cut_off.new.segments.items ≡ take cut.segment i.segments.items ++ filled (cut.used ∷ []) =
     c.cut_off.ensures.items ∙ ap (λ s. take cut.segment s ++ filled (cut.used ∷ [])) c.reserve.ensures.items in
     before_is i.segments.items c.cut_off.new.segments.items cut.segment cut.used (length i.bytes.items + c.args.offset) is
-    c.self.invariant.4 at fits preserved
+    c.self.invariant.4 at fits kept
     ∙ ap (λ (v : WriterView). up_to (length v.written + c.args.offset) v.segments) c.self.view_is
 
 pub returns-clause-behind : goal.returns-clause-behind

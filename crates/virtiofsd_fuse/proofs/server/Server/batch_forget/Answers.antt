@@ -14,9 +14,9 @@ returns-in-Pairs-clause-handles g c =
 
 pub returns-in-Pairs-clause-rest : goal.returns-in-Pairs-clause-rest
 returns-in-Pairs-clause-rest g c =
-    let reported = (c.in-Pairs.ensures.reads c.args.head.now c.args.self.now.options.0 c.args.w.now.free).0 in
+    let given = (c.in-Pairs.ensures.reads c.args.head.now c.args.self.now.options.0 c.args.w.now.free).0 in
     let rest = c.forget_pairs.ensures.rest in
-    (rest.0, λ none. rest.1 (rw reported at none), rest.2)
+    (rest.0, λ none. rest.1 (rw given at none), rest.2)
 
 pub returns-in-Error-clause-handles : goal.returns-in-Error-clause-handles
 returns-in-Error-clause-handles g c =

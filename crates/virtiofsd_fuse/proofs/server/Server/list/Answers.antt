@@ -5,7 +5,7 @@ use Rattle.server_meanings.specs.ListingRuns.{ListRun}
 use Rattle.server_meanings.specs.Serving.{setting}
 use Rattle.server_meanings.proofs.Serve.{handles_list, handles_unlisted}
 use Rattle.virtiofsd_fuse.proofs.ListingLemmas.{entries_fit, place_stays}
-use Rattle.server_meanings.proofs.Rows.{listing_reported, listing_suits}
+use Rattle.server_meanings.proofs.Rows.{listing_returned, listing_suits}
 use Rattle.virtiofsd_fuse.proofs.server.Server.list.Goals as goal
 
 pub reply_listing-requires-clause-behind : goal.reply_listing-requires-clause-behind
@@ -31,7 +31,7 @@ returns-in-Ok-clause-handles g c =
     refl
     c.in-Ok.ensures.may outcome
     (ap (λ (o : FsOptions). o.0) c.list_entries-error.ensures.options)
-    (listing_reported c.args.w.now.free c.args.head.now.unique c.reply_listing.result c.args.with_nodes c.append.new.w.written
+    (listing_returned c.args.w.now.free c.args.head.now.unique c.reply_listing.result c.args.with_nodes c.append.new.w.written
     c.list_entries-error.new.w.written _ outcome.bytes
     c.list_entries-error.result front outcome.all
     (entries_fit c.append.new.w.written c.list_entries-error.new.w.written outcome.bytes c.append.new.w.free c.list_entries-error.new.w.free

@@ -29,6 +29,6 @@ returns-then-is_dot-clause-run g c = λ request.
     dot_run g.F.FileSystemBase.may (listing_of c.args.with_nodes c.args.head.now request) d _ _ _ _ _ _ _ c.put_node.result
     (Prim.search rules) (Prim.search rules)
     (placed_one g.F.FileSystemBase.may true d (no_node d) (undo ∷ []) _ _ _ _ _ _ _ c.put_node.result put.outcome
-    (rw c.no_node.ensures at put.written) put.free put.preserved
+    (rw c.no_node.ensures at put.written) put.free put.kept
     (on_error c.put_node.result (λ same. ap (λ (w : WriterView). w.written) same) put.same)
     (on_error c.put_node.result (λ step. ((undo, Done) ∷ [], refl, (_, refl, rw none at step, refl))) put.undone))

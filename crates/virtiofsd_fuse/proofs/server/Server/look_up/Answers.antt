@@ -15,7 +15,7 @@ returns-in-Ok-clause-run g c = λ request.
     c.put_node.result refl c.requires
     (search rules) (search rules)
     (placed_one g.F.FileSystemBase.may true (listed c.args.entry.now) node (undo ∷ []) _ _ _ _ _ _ _ c.put_node.result put.outcome
-    put.written put.free put.preserved
+    put.written put.free put.kept
     (on_error c.put_node.result (λ same. ap (λ (w : WriterView). w.written) same) put.same)
     (on_error c.put_node.result (λ step. ((undo, Done) ∷ [], refl, (_, refl, step, refl))) put.undone))
 

@@ -1,6 +1,6 @@
 use Rattle.std.proofs.Common.{rules, refl}
 use Rattle.server_meanings.specs.Serving.{setting}
-use Rattle.server_meanings.proofs.Rows.{silent_reported}
+use Rattle.server_meanings.proofs.Rows.{silent_returned}
 use Rattle.fuse_fs.specs.Calls.{Forget, Done}
 use Rattle.server_meanings.proofs.Serve.{handles_one}
 use Rattle.virtiofsd_fuse.proofs.server.Server.perform_record.Goals as goal
@@ -37,4 +37,4 @@ pub returns-in-Forget-clause-handles : goal.returns-in-Forget-clause-handles
 returns-in-Forget-clause-handles g c = rw c.in-Forget.is (
     handles_one g.F.FileSystemBase.may (setting c.args.self.now.page_size c.args.self.now.options.0 c.args.w.now.free)
     _ c.args.unique (Forget c.in-Forget.context c.in-Forget.node c.in-Forget.count) Done _ _ _ _ _ refl refl (search rules) refl refl
-    (silent_reported c.args.w.now.free _ _ c.silence.ensures c.requires.fresh))
+    (silent_returned c.args.w.now.free _ _ c.silence.ensures c.requires.fresh))

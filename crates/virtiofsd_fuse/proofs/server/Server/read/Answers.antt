@@ -14,9 +14,9 @@ returns-in-Ok-clause-handles g c =
 
 pub returns-in-Err-clause-handles : goal.returns-in-Err-clause-handles
 returns-in-Err-clause-handles g c =
-    let reported = rw c.available_bytes-room.ensures.free at (c.in-Err.ensures c.args.head.now c.args.self.now.options.0) in
+    let given = rw c.available_bytes-room.ensures.free at (c.in-Err.ensures c.args.head.now c.args.self.now.options.0) in
     handles_refusal g.F.FileSystemBase.may (setting c.args.self.now.page_size c.args.self.now.options.0 c.args.w.now.free) _ _ _ _
-    (λ other. reported.0)
+    (λ other. given.0)
 
 pub returns-in-Err-clause-rest : goal.returns-in-Err-clause-rest
 returns-in-Err-clause-rest g c = (refl, λ none. (c.in-Err.ensures c.args.head.now c.args.self.now.options.0).1, refl)

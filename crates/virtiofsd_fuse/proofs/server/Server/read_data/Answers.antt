@@ -3,7 +3,7 @@ use Rattle.fuse_fs.specs.Answers.{data_answer}
 use Rattle.server_calls.specs.Requests.{read_call}
 use Rattle.server_meanings.specs.Serving.{setting}
 use Rattle.server_meanings.proofs.Serve.{handles_one}
-use Rattle.server_meanings.proofs.Rows.{read_suits, read_reported}
+use Rattle.server_meanings.proofs.Rows.{read_suits, read_returned}
 use Rattle.virtiofsd_fuse.proofs.server.Server.read_data.Goals as goal
 
 pub returns-clause-handles : goal.returns-clause-handles
@@ -26,6 +26,6 @@ returns-clause-handles g c =
     (rw left at h.4)
     refl
     refl
-    (read_reported c.args.w.now.free c.args.head.now.unique c.args.head.now
+    (read_returned c.args.w.now.free c.args.head.now.unique c.args.head.now
     (c.args.w.now.free - 16) c.args.request.now c.make_read_call-answer.result _ _ _ h.0 c.reply_data.result front h.1 fits
     c.reply_data.ensures.reply)

@@ -21,10 +21,10 @@ returns-in-Error-clause-handles g c =
 
 pub returns-in-Fault-clause-handles : goal.returns-in-Fault-clause-handles
 returns-in-Fault-clause-handles g c =
-    let reported =
+    let given =
     rw c.available_bytes-room.ensures.free at (c.in-Fault.ensures c.args.with_nodes c.args.head.now c.args.self.now.options.0) in
     handles_refusal g.F.FileSystemBase.may (setting c.args.self.now.page_size c.args.self.now.options.0 c.args.w.now.free) _ _ _ _
-    (λ other. reported.0)
+    (λ other. given.0)
 
 pub returns-in-Fault-clause-rest : goal.returns-in-Fault-clause-rest
 returns-in-Fault-clause-rest g c = (refl, λ none. (c.in-Fault.ensures c.args.with_nodes c.args.head.now c.args.self.now.options.0).1, refl)

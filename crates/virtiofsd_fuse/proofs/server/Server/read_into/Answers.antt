@@ -3,7 +3,7 @@ use Rattle.fuse_fs.specs.Answers.{data_answer}
 use Rattle.server_calls.specs.Requests.{read_call}
 use Rattle.server_meanings.specs.Serving.{setting}
 use Rattle.server_meanings.proofs.Serve.{handles_one}
-use Rattle.server_meanings.proofs.Rows.{moved_all, read_suits, read_reported_apart}
+use Rattle.server_meanings.proofs.Rows.{moved_all, read_suits, read_returned_apart}
 use Rattle.virtiofsd_fuse.proofs.server.Server.read_into.Goals as goal
 
 pub returns-clause-handles : goal.returns-clause-handles
@@ -28,7 +28,7 @@ returns-clause-handles g c =
           c.make_read_call-answer.new.fs) (sym left) h.4)
           refl
           refl
-          (read_reported_apart (16 + free) head.unique head (16 + free - 16) asked answer _ h.0 (16 + c.moved-len.result)
+          (read_returned_apart (16 + free) head.unique head (16 + free - 16) asked answer _ h.0 (16 + c.moved-len.result)
           c.data_header.ensures
           h.3 none (omega (arith, h.2))),
     )

@@ -11,7 +11,8 @@ use Rattle.fs_regions.specs.Places.{places_in}
 use Rattle.plain_machine.specs.Step.{Exchange}
 use Rattle.live_machine.specs.Several.{LiveQueue, in_flight, returning}
 use Rattle.live_machine.specs.Live.{Abandoned, InFlightChain, LiveEvent, LiveRun, PushedWith}
-use Rattle.fs_chain.specs.Holds.{HoldsPop, IsPopOf, IsQueue, IsUnanswered, Machine, Pop, any_files, live_of}
+use Rattle.fs_chain.specs.Holds.{HoldsPop, IsPopOf, IsRunQueue, IsUnanswered, RunState, Pop, any_files}
+use Rattle.fs_chain.specs.Holds.{live_of}
 pub use Rattle.fs_chain.specs.Holds.{no_pop}
 use Rattle.fs_chain.specs.Orders.{is_out}
 use Rattle.fs_chain.specs.Together.{Owned, Together}
@@ -35,44 +36,44 @@ abbrev pub lost : InFlightChain → Owned
 lost c = record { handle = None; chain = c }
 
 -- it is one of these queues, and nothing more is done with it
-abbrev pub IsLost : List QueueState → InFlightChain → Type 0
-IsLost qs c =
+abbrev pub IsAbandoned : List QueueState → InFlightChain → Type 0
+IsAbandoned qs c =
     (q : QueueState)
     × (slice_get qs c.queue ≡ Some q)
     × (fault : Option ChainFault)
     × (c.phase ≡ Abandoned fault)
 
 -- a push under way: its handle, the stores that it returned, and the buffer with the reply's front
-pub record Begun : Type 0 where
+pub record PushUnderWay : Type 0 where
   pub handle : ℕ
   pub stores : PushStores
   pub front : List ℕ
 
 -- the stores and the front are those of this exchange, at the queue's next used position
-abbrev pub IsBegunBy : QueueState → InFlightChain → Exchange → Begun → Type 0
-IsBegunBy q c x b =
+abbrev pub IsPushOf : QueueState → InFlightChain → Exchange → PushUnderWay → Type 0
+IsPushOf q c x b =
     (stores_of b.stores.used ≡ stores_after_reply (returning (live_of q)) c.head (length x.reply))
     × (behind : List ℕ)
     × (x.reply ≡ take b.stores.front_len b.front ++ behind)
 
 -- the push under way is handle k's, of this exchange
-abbrev pub IsUnderWay : ℕ → QueueState → InFlightChain → Exchange → Option Begun → Type 0
+abbrev pub IsUnderWay : ℕ → QueueState → InFlightChain → Exchange → Option PushUnderWay → Type 0
 IsUnderWay k q c x None = ⊥
-IsUnderWay k q c x (Some b) = (b.handle ≡ k) × IsBegunBy q c x b
+IsUnderWay k q c x (Some b) = (b.handle ≡ k) × IsPushOf q c x b
 
 -- a chain whose reply is known can be pushed: each of its calls was answered. One that lists has no entry,
 -- and no call of it was answered
-abbrev pub IsReady :
-    (page_size k : ℕ) → QueueState → Option Begun → InFlightChain → state.ChainState → Type 0
-IsReady page_size k q push c (at.HasReply out preserved) = (x : Exchange) × PushedWith page_size c c.phase x
-IsReady page_size k q push c (at.Pushing out) =
+abbrev pub CanBePushed :
+    (page_size k : ℕ) → QueueState → Option PushUnderWay → InFlightChain → state.ChainState → Type 0
+CanBePushed page_size k q push c (at.Replied out kept) = (x : Exchange) × PushedWith page_size c c.phase x
+CanBePushed page_size k q push c (at.Pushing out) =
     (x : Exchange) × PushedWith page_size c c.phase x × IsUnderWay k q c x push
-IsReady page_size k q push c (at.Lists out listing) = IsUnanswered c.phase (at.Lists out listing)
-IsReady page_size k q push c _ = Unit {0}
+CanBePushed page_size k q push c (at.Listing out listing) = IsUnanswered c.phase (at.Listing out listing)
+CanBePushed page_size k q push c _ = Unit {0}
 
 -- a pop that is under way has these loads, which lead to it
 abbrev pub MayPop : (limit : ℕ) → QueueState → Pop → ChainHandle → state.ChainState → Type 0
-MayPop limit q p w (at.Walking course pop_id walk) = HoldsPop limit p w × IsPopOf q p
+MayPop limit q p w (at.Popping course pop_id walk) = HoldsPop limit p w × IsPopOf q p
 MayPop limit q p w _ = Unit {0}
 
 -- a handle over the run's memory
@@ -85,7 +86,7 @@ abbrev pub with_pop : (ℕ → Pop) → ℕ → Pop → ℕ → Pop
 with_pop pops k p j = if k == j then p else pops j
 
 -- the pushes under way, once this is queue i's
-abbrev pub with_push : (ℕ → Option Begun) → ℕ → Option Begun → ℕ → Option Begun
+abbrev pub with_push : (ℕ → Option PushUnderWay) → ℕ → Option PushUnderWay → ℕ → Option PushUnderWay
 with_push pushes i push j = if i == j then push else pushes j
 
 -- the queues, once this is queue i
@@ -102,22 +103,22 @@ abbrev pub HasInFlight : LiveQueue → (n : ℕ) → Type 0
 HasInFlight w n = w.max_in_flight < 2 ^ 16 → w.next_used < 2 ^ 16 → n ≤ in_flight w
 
 -- queue i of the list is queue i of the run, which may have more
-abbrev pub AreQueues : Machine → List QueueState → Type 0
-AreQueues s qs = (i : ℕ) (q : QueueState) → slice_get qs i ≡ Some q → IsQueue s i q
+abbrev pub AreQueues : RunState → List QueueState → Type 0
+AreQueues s qs = (i : ℕ) (q : QueueState) → slice_get qs i ≡ Some q → IsRunQueue s i q
 
 -- handle k's chain is of its queue, and can be pushed once its reply is known
-abbrev pub IsItsOwn : (on : List ℕ) → (page_size : ℕ) → List QueueState → (pushes : ℕ → Option Begun) →
+abbrev pub IsItsOwn : (on : List ℕ) → (page_size : ℕ) → List QueueState → (pushes : ℕ → Option PushUnderWay) →
     (k : ℕ) → InFlightChain → state.ChainState → Type 0
 IsItsOwn on page_size qs pushes k c st =
     (slice_get on k ≡ Some c.queue)
     × (q : QueueState)
     × (slice_get qs c.queue ≡ Some q)
-    × IsReady page_size k q (pushes c.queue) c st
+    × CanBePushed page_size k q (pushes c.queue) c st
 
 -- the handles hold the chains of a run, each those of its queue, but those whose handle was freed, and no
 -- others. `on`: the number of each handle's queue. No FORGET is owed
-pub record Driven (s : Machine) (on : List ℕ) (page_size : ℕ) (qs : List QueueState) (ws : List ChainHandle)
-    (os : List Owned) (pops : ℕ → Pop) (pushes : ℕ → Option Begun) : Type 0 where
+pub record Driven (s : RunState) (on : List ℕ) (page_size : ℕ) (qs : List QueueState) (ws : List ChainHandle)
+    (os : List Owned) (pops : ℕ → Pop) (pushes : ℕ → Option PushUnderWay) : Type 0 where
   pub all : Together s ws os
   pub queues : AreQueues s qs
   pub page : s.page_size ≡ page_size
@@ -128,62 +129,63 @@ pub record Driven (s : Machine) (on : List ℕ) (page_size : ℕ) (qs : List Que
       (c : InFlightChain) × In (own k c) os
   pub fits : (k : ℕ) (w : ChainHandle) (i : ℕ) (q : QueueState) → slice_get ws k ≡ Some w →
       slice_get on k ≡ Some i → slice_get qs i ≡ Some q → FitsRun s.places s.limit q (pops k) w
-  pub left : (c : InFlightChain) → In (lost c) os → IsLost qs c
+  pub left : (c : InFlightChain) → In (lost c) os → IsAbandoned qs c
   pub still : (i : ℕ) (q : QueueState) → slice_get qs i ≡ Some q → q.pushing ≡ false → pushes i ≡ None
   pub counts : (i : ℕ) (q : QueueState) → slice_get qs i ≡ Some q → HasInFlight (live_of q) (number_of i os)
 
 -- what a driver has of a run: its state, the handles and the queues, the chain of each handle, the loads of
 -- its pop, and the push under way of each queue
-pub record Desk : Type 0 where
-  pub run : Machine
+pub record Driver : Type 0 where
+  pub run : RunState
   pub handles : List ChainHandle
   pub queues : List QueueState
   pub owned : List Owned
   pub pops : ℕ → Pop
-  pub pushes : ℕ → Option Begun
+  pub pushes : ℕ → Option PushUnderWay
 
-abbrev pub desk :
-    Machine → List ChainHandle → List QueueState → List Owned → (ℕ → Pop) → (ℕ → Option Begun) → Desk
-desk s ws qs os pops pushes =
+abbrev pub driver :
+    RunState → List ChainHandle → List QueueState → List Owned → (ℕ → Pop) → (ℕ → Option PushUnderWay) →
+    Driver
+driver s ws qs os pops pushes =
     record { run = s; handles = ws; queues = qs; owned = os; pops = pops; pushes = pushes }
 
--- events lead to a state of which the handles hold the chains. They have what the calls returned, if T tells
--- it
-abbrev pub Leads : Machine → (on : List ℕ) → (page_size : ℕ) → List QueueState → List ChainHandle →
-    (T : List LiveEvent → Desk → Type 0) → Type 0
-Leads s on page_size qs ws T =
+-- events lead to a state of which the handles hold the chains. They are those of the calls' results, if T
+-- says so
+abbrev pub HasRun : RunState → (on : List ℕ) → (page_size : ℕ) → List QueueState → List ChainHandle →
+    (T : List LiveEvent → Driver → Type 0) → Type 0
+HasRun s on page_size qs ws T =
     (es : List LiveEvent)
-    × (after : Machine)
+    × (after : RunState)
     × (os : List Owned)
     × (pops : ℕ → Pop)
-    × (pushes : ℕ → Option Begun)
+    × (pushes : ℕ → Option PushUnderWay)
     × LiveRun any_files s es after
     × Driven after on page_size qs ws os pops pushes
-    × T es (desk after ws qs os pops pushes)
+    × T es (driver after ws qs os pops pushes)
 
 -- a push under way stays, unless it is handle k's own and has ended
-abbrev pub KeepsPush : (k : ℕ) → (was now : Option Begun) → Type 0
-KeepsPush k was now = (b : Begun) → was ≡ Some b → (now ≡ Some b) ⊎ ((b.handle ≡ k) × (now ≡ None))
+abbrev pub KeepsPush : (k : ℕ) → (was now : Option PushUnderWay) → Type 0
+KeepsPush k was now = (b : PushUnderWay) → was ≡ Some b → (now ≡ Some b) ⊎ ((b.handle ≡ k) × (now ≡ None))
 
 -- the same of a call of handle k and queue i: each other handle's pop, and each other queue's push under way,
 -- is as it was. So is another handle's push of this queue
-abbrev pub LeadsBy : Machine → (on : List ℕ) → (page_size : ℕ) → List QueueState → List ChainHandle →
-    (k : ℕ) → (pops : ℕ → Pop) → (i : ℕ) → (pushes : ℕ → Option Begun) →
-    (T : List LiveEvent → Desk → Type 0) → Type 0
-LeadsBy s on page_size qs ws k pops i pushes T =
+abbrev pub HasRunBy : RunState → (on : List ℕ) → (page_size : ℕ) → List QueueState → List ChainHandle →
+    (k : ℕ) → (pops : ℕ → Pop) → (i : ℕ) → (pushes : ℕ → Option PushUnderWay) →
+    (T : List LiveEvent → Driver → Type 0) → Type 0
+HasRunBy s on page_size qs ws k pops i pushes T =
     (es : List LiveEvent)
-    × (after : Machine)
+    × (after : RunState)
     × (os : List Owned)
     × (pop : Pop)
-    × (push : Option Begun)
+    × (push : Option PushUnderWay)
     × LiveRun any_files s es after
     × Driven after on page_size qs ws os (with_pop pops k pop) (with_push pushes i push)
     × KeepsPush k (pushes i) push
-    × T es (desk after ws qs os (with_pop pops k pop) (with_push pushes i push))
+    × T es (driver after ws qs os (with_pop pops k pop) (with_push pushes i push))
 
--- these events lead from one desk to another, where the handles hold the run's chains
-abbrev pub LeadsTo : (on : List ℕ) → (page_size : ℕ) → (d d' : Desk) → List LiveEvent → Type 0
-LeadsTo on page_size d d' es =
+-- these events lead from one state of the driver to another, where the handles hold the run's chains
+abbrev pub RunsTo : (on : List ℕ) → (page_size : ℕ) → (d d' : Driver) → List LiveEvent → Type 0
+RunsTo on page_size d d' es =
     LiveRun any_files d.run es d'.run
     × Driven d'.run on page_size d'.queues d'.handles d'.owned d'.pops d'.pushes
 
@@ -192,7 +194,7 @@ LeadsTo on page_size d d' es =
 -- free handles over the run's memory, while no chain is in flight
 abbrev pub BeginsDriven : Type 0
 BeginsDriven =
-    (s : Machine) (on : List ℕ) (page_size : ℕ) (qs : List QueueState) (ws : List ChainHandle) →
+    (s : RunState) (on : List ℕ) (page_size : ℕ) (qs : List QueueState) (ws : List ChainHandle) →
     s.chains ≡ [] →
     AreQueues s qs →
     s.page_size ≡ page_size →

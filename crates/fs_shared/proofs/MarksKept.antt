@@ -19,16 +19,16 @@ calls_mark r old new m =
 
 pub calls_keep : CallsKeepMarks
 calls_keep receipts pages old new m has =
-    All-weaker (AreMarked old) (AreMarked new) (λ r reported page within here. let k = m.count in m.recorded page (reported page
+    All-weaker (AreMarked old) (AreMarked new) (λ r is_marked page within here. let k = m.count in m.recorded page (is_marked page
     (omega arith) here)) receipts has
 
 pub joins_keep : JoinsKeepMarks
 joins_keep receipts others ts us same mine theirs =
     All-append (AreMarked (joined_with us ts)) receipts others
     (All-weaker (AreMarked ts) (AreMarked (joined_with us ts))
-    (λ r reported page within here. first page (short page within) (reported page (short page within) here)) receipts mine)
+    (λ r is_marked page within here. first page (short page within) (is_marked page (short page within) here)) receipts mine)
     (All-weaker (AreMarked us) (AreMarked (joined_with us ts))
-    (λ r reported page within here. let s = short page within in second page s (reported page (omega arith) here)) others theirs)
+    (λ r is_marked page within here. let s = short page within in second page s (is_marked page (omega arith) here)) others theirs)
   where
     short : (page : ℕ) → page < length (joined_with us ts) → page < length ts
     short page within = let k = length-each_tally (λ p t. both_of t (tally_of us p)) 0 ts in omega arith
@@ -47,8 +47,8 @@ joins_keep receipts others ts us same mine theirs =
 pub meets_keep : MeetsKeepMarks
 meets_keep receipts ts us has =
     All-weaker (AreMarked ts) (AreMarked (met_with us ts))
-    (λ r reported page within here.
+    (λ r is_marked page within here.
     let k = length-each_tally (λ p t. met_of t (tally_of us p)) 0 ts in
     let short : page < length ts = omega arith in
-    ap (λ (t : Tally). t.marked) (at_each (λ p t. met_of t (tally_of us p)) ts page short) ∙ reported page short here)
+    ap (λ (t : Tally). t.marked) (at_each (λ p t. met_of t (tally_of us p)) ts page short) ∙ is_marked page short here)
     receipts has

@@ -2,7 +2,7 @@
 use Rattle.std.specs.Prelude.{◌≡◌}
 use Rattle.fs_chain.specs.declared.chain_handle.ChainHandle.{ChainHandle}
 
--- what a run's relation tells of a handle is the same
+-- what a run's relation says of a handle is the same
 abbrev pub IsSameHeld : (old new : ChainHandle) → Type 0
 IsSameHeld old new =
     (new.state ≡ old.state)

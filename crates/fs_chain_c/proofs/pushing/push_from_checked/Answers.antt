@@ -1,5 +1,5 @@
 use Rattle.std.proofs.Common.{rules, refl, inl, inr}
-use Rattle.fs_chain_c.proofs.pushing.return_preserved.Goals as goal
+use Rattle.fs_chain_c.proofs.pushing.push_from_checked.Goals as goal
 
 pub returns-in-Some : goal.returns-in-Some
 returns-in-Some c = inl (

@@ -11,42 +11,42 @@ use Rattle.fs_shared.specs.declared.entry.Receipt.{Receipt}
 use Rattle.fs_shared.specs.Laws.{CallsKeepSince, CallsMarkSince, EarlierAsksNothing, GathersKeepSince, JoinsKeepSince, MeetsKeepSince}
 
 -- what one receipt tells is marked since
-abbrev pub ReportedSince : (word first : ℕ) → (taken pages : List Tally) → Receipt → Type 0
-ReportedSince word first taken pages r =
+abbrev pub MarkedSince : (word first : ℕ) → (taken pages : List Tally) → Receipt → Type 0
+MarkedSince word first taken pages r =
     first ≤ r.number → (page : ℕ) → page / 64 ≡ word → page < length pages → Contains r.pages.items page → IsMarkedSince taken pages page
 
 pub calls_mark_since : CallsMarkSince
 calls_mark_since word first taken r old new seen m =
-    All-cons (ReportedSince word first taken new) r []
-    (λ late page here within reported. let k = m.count in since_by_mark word taken r.pages.items old new m seen page here (omega arith)
-    reported)
-    (All-nil (ReportedSince word first taken new))
+    All-cons (MarkedSince word first taken new) r []
+    (λ late page here within is_marked. let k = m.count in since_by_mark word taken r.pages.items old new m seen page here (omega arith)
+    is_marked)
+    (All-nil (MarkedSince word first taken new))
 
 pub calls_keep_since : CallsKeepSince
 calls_keep_since word first taken receipts pages old new m = (
   λ seen. seen_stays word taken pages old new m seen,
-  λ has. All-weaker (ReportedSince word first taken old) (ReportedSince word first taken new)
-      (λ r reported late page here within has_it. let k = m.count in
-      since_stays taken pages old new m page (reported late page here (omega arith) has_it))
+  λ has. All-weaker (MarkedSince word first taken old) (MarkedSince word first taken new)
+      (λ r is_marked late page here within has_it. let k = m.count in
+      since_stays taken pages old new m page (is_marked late page here (omega arith) has_it))
       receipts has,
 )
 
 pub earlier_asks_nothing : EarlierAsksNothing
 earlier_asks_nothing word first taken pages r early =
-    All-cons (ReportedSince word first taken pages) r [] (λ late page here within reported. absurd (omega arith))
-    (All-nil (ReportedSince word first taken pages))
+    All-cons (MarkedSince word first taken pages) r [] (λ late page here within is_marked. absurd (omega arith))
+    (All-nil (MarkedSince word first taken pages))
 
 pub joins_keep_since : JoinsKeepSince
 joins_keep_since word first taken receipts others ts us same mine theirs =
-    All-append (ReportedSince word first taken (joined_with us ts)) receipts others
-    (All-weaker (ReportedSince word first taken ts) (ReportedSince word first taken (joined_with us ts))
-    (λ r reported late page here within has_it. let s = short page within in
-    let m = reported late page here s has_it in
+    All-append (MarkedSince word first taken (joined_with us ts)) receipts others
+    (All-weaker (MarkedSince word first taken ts) (MarkedSince word first taken (joined_with us ts))
+    (λ r is_marked late page here within has_it. let s = short page within in
+    let m = is_marked late page here s has_it in
     since_by_joining taken us ts page s (omega arith))
     receipts mine)
-    (All-weaker (ReportedSince word first taken us) (ReportedSince word first taken (joined_with us ts))
-    (λ r reported late page here within has_it. let s = short page within in
-    let m = reported late page here (omega arith) has_it in
+    (All-weaker (MarkedSince word first taken us) (MarkedSince word first taken (joined_with us ts))
+    (λ r is_marked late page here within has_it. let s = short page within in
+    let m = is_marked late page here (omega arith) has_it in
     since_by_joining taken us ts page s (omega arith))
     others theirs)
   where
@@ -55,17 +55,17 @@ joins_keep_since word first taken receipts others ts us same mine theirs =
 
 pub meets_keep_since : MeetsKeepSince
 meets_keep_since word first taken receipts ts us has =
-    All-weaker (ReportedSince word first taken ts) (ReportedSince word first taken (met_with us ts))
-    (λ r reported late page here within has_it.
+    All-weaker (MarkedSince word first taken ts) (MarkedSince word first taken (met_with us ts))
+    (λ r is_marked late page here within has_it.
     let k = length-each_tally (λ p t. met_of t (tally_of us p)) 0 ts in
     let short : page < length ts = omega arith in
-    since_by_meeting taken us ts page short (reported late page here short has_it))
+    since_by_meeting taken us ts page short (is_marked late page here short has_it))
     receipts has
 
 pub gathers_keep_since : GathersKeepSince
 gathers_keep_since word other found first taken pages receipts apart has =
-    All-weaker (ReportedSince word first taken pages) (ReportedSince word first _ pages)
-    (λ r reported late page here within has_it.
+    All-weaker (MarkedSince word first taken pages) (MarkedSince word first _ pages)
+    (λ r is_marked late page here within has_it.
     let same = taken_else other found taken page (λ e. apart (sym here ∙ e)) in
-    let m = reported late page here within has_it in omega arith)
+    let m = is_marked late page here within has_it in omega arith)
     receipts has

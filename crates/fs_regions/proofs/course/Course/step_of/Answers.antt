@@ -6,7 +6,7 @@ use Rattle.fs_regions.specs.Walks.{queue_of}
 use Rattle.fs_regions.proofs.Missing.{ring_no_miss}
 use Rattle.fs_regions.proofs.Offering.{on_refused}
 use Rattle.fs_regions.proofs.Steps.{untold, head_waits}
-use Rattle.fs_regions.proofs.course.Course.reported.Goals as goal
+use Rattle.fs_regions.proofs.course.Course.step_of.Goals as goal
 
 pub returns-in-Refused : goal.returns-in-Refused
 returns-in-Refused c = λ loaded reports none.

@@ -26,31 +26,32 @@ use Rattle.live_machine.specs.Live.{PushesChain, ReceivesAnswer, RefusesPop, Set
 use Rattle.live_machine.specs.Live.{StoresNotification, asked_chain}
 use Rattle.fs_chain.specs.Ahead.{PopsAhead, ahead_error}
 use Rattle.fs_chain.specs.AheadSteps.{AddsAhead}
-use Rattle.fs_chain.specs.Answers.{IfWaits, IsGiven, IsNotTaken}
+use Rattle.fs_chain.specs.Answers.{IfDecoded, IsGiven, IsNotTaken}
 use Rattle.fs_chain.specs.Decoding.{IfUndecoded, ReportStandsIn, ReportsMeaning, wanted_after, wanted_by}
-use Rattle.fs_driven.specs.Desks.{Begun, Desk, Driven, In, KeepsPush, Leads, LeadsBy, LeadsTo, desk, lost}
-use Rattle.fs_driven.specs.Desks.{own, with_pop, with_push, with_queue}
-use Rattle.fs_chain.specs.Holds.{Machine, Pop, calls_decoded, live_of, served_so}
+use Rattle.fs_driven.specs.Drivers.{PushUnderWay, Driver, Driven, In, KeepsPush, HasRun, HasRunBy, RunsTo}
+use Rattle.fs_driven.specs.Drivers.{driver, lost}
+use Rattle.fs_driven.specs.Drivers.{own, with_pop, with_push, with_queue}
+use Rattle.fs_chain.specs.Holds.{RunState, Pop, calls_decoded, live_of, served_so}
 use Rattle.fs_chain.specs.Listings.{EndsByEntries, EndsByError}
-use Rattle.fs_chain.specs.Loads.{IsSame, ProceedsSo, RefusesWalk, whole}
+use Rattle.fs_chain.specs.Loads.{IsSame, ProceedsSo, RefusesAPop, whole}
 use Rattle.fs_chain.specs.Orders.{ask_error, end_error, front_of, give_up_error, has_ring, is_out}
-use Rattle.fs_chain.specs.Orders.{push_error, return_error}
+use Rattle.fs_chain.specs.Orders.{push_error, push_refusal}
 use Rattle.fs_chain.specs.OwnReplies.{IfUnanswered, own_error, own_reply}
-use Rattle.fs_chain.specs.Pushes.{IfHasReply, IsFreed, PushesBy}
+use Rattle.fs_chain.specs.Pushes.{IfReplied, IsFreed, PushesBy}
 use Rattle.fs_chain.specs.Events.{notification_store, store_of}
 use Rattle.fs_chain.specs.Queues.{gave, gave_up, reset_to}
-use Rattle.fs_chain.specs.Serials.{UnlessRefused, freed, serial_error}
+use Rattle.fs_chain.specs.Tickets.{UnlessRefused, freed, ticket_error}
 use Rattle.fs_chain.specs.Together.{Owned, with_handle}
 use Rattle.fs_chain.specs.Walks.{IsAllBut, IsAllButPlace, count}
 use Rattle.fs_chain.specs.ListingCalls.{listing_calls}
 use Rattle.fs_chain.specs.Pops.{AddsSo}
 use Rattle.fs_chain.specs.declared.answering.Replied.{Replied}
-use Rattle.fs_chain.specs.declared.listing.Added.{Added}
+use Rattle.fs_chain.specs.declared.listing.AddOutcome.{AddOutcome}
 use Rattle.fs_chain.specs.declared.chain_handle.ChainHandle.{ChainHandle}
-use Rattle.fs_driven.specs.declared.commands.Command.{Command}
-use Rattle.fs_driven.specs.declared.commands.Command.TheVariants as does
-use Rattle.fs_driven.specs.declared.commands.Returned.{Returned}
-use Rattle.fs_driven.specs.declared.commands.Returned.TheVariants as gives
+use Rattle.fs_driven.specs.declared.commands.DriverCall.{DriverCall}
+use Rattle.fs_driven.specs.declared.commands.DriverCall.TheVariants as does
+use Rattle.fs_driven.specs.declared.commands.Results.{Results}
+use Rattle.fs_driven.specs.declared.commands.Results.TheVariants as gives
 use Rattle.fs_chain.specs.declared.decoding.Decoded.{Decoded}
 use Rattle.fs_chain.specs.declared.notifications.NotificationStore.{NotificationStore}
 use Rattle.fs_chain.specs.declared.decoding.Decoded.TheVariants as asks
@@ -67,9 +68,9 @@ use Rattle.fs_chain.specs.declared.state.ChainState.TheVariants as at
 use Rattle.fs_chain.specs.declared.state.InFlight.{InFlight}
 use Rattle.fs_driven.specs.Adding.{BringsSo, EndsSo}
 use Rattle.fs_driven.specs.Entries.{IsOfLast, all_brought, answers_of, ending_of}
-use Rattle.fs_driven.specs.Moving.{MoveReports}
-use Rattle.fs_driven.specs.NewMemory.{RemapReports}
-use Rattle.fs_driven.specs.Preserved.{IsSameHeld}
+use Rattle.fs_driven.specs.Moving.{MoveEvents}
+use Rattle.fs_driven.specs.NewMemory.{RemapEvents}
+use Rattle.fs_driven.specs.Kept.{IsSameHeld}
 use Rattle.fs_driven.specs.declared.entries.ListedEntry.{ListedEntry}
 
 -- ---- calls
@@ -77,11 +78,11 @@ use Rattle.fs_driven.specs.declared.entries.ListedEntry.{ListedEntry}
 -- a call: the number of its handle, its command, and what it returned
 pub record Called : Type 0 where
   pub place : ℕ
-  pub command : Command
-  pub returned : Returned
+  pub command : DriverCall
+  pub returned : Results
 
 -- a call of handle k
-abbrev pub call_of : ℕ → Command → Returned → Called
+abbrev pub call_of : ℕ → DriverCall → Results → Called
 call_of k command returned = record { place = k; command = command; returned = returned }
 
 -- what a call doesn't see: the rest of a request, an answer's data, or a reply of the caller's own; the
@@ -103,7 +104,7 @@ request_of front u len = front ++ exactly (len - length front) u.bytes
 
 -- the length of a chain's request that wasn't decoded
 abbrev pub asked_len_of : state.ChainState → ℕ
-asked_len_of (at.Taken out) = out.request_len
+asked_len_of (at.Popped out) = out.request_len
 asked_len_of _ = 0
 
 -- the data of an answer
@@ -111,20 +112,20 @@ abbrev pub data_of : made_answer.FileAnswer → Unseen → List ℕ
 data_of (value.Bytes len) u = exactly len u.bytes
 data_of _ u = []
 
--- a call of handle `handle`, for queue `queue` of the run: the desk before and after it, the handle, and the
--- queue
+-- a call of handle `handle`, for queue `queue` of the run: the driver's state before and after it, the
+-- handle, and the queue
 pub record Transition : Type 0 where
   pub queue : ℕ
   pub page_size : ℕ
   pub handle : ℕ
-  pub old : Desk
-  pub new : Desk
+  pub old : Driver
+  pub new : Driver
   pub was : ChainHandle
   pub now : ChainHandle
   pub before : QueueState
   pub after : QueueState
 
-abbrev pub transition : (i page_size k : ℕ) → (d d' : Desk) → (w w' : ChainHandle) →
+abbrev pub transition : (i page_size k : ℕ) → (d d' : Driver) → (w w' : ChainHandle) →
     (q q' : QueueState) → Transition
 transition i page_size k d d' w w' q q' =
     record {
@@ -144,8 +145,8 @@ abbrev pub KeepsPop : Transition → Type 0
 KeepsPop t = t.new.pops t.handle ≡ t.old.pops t.handle
 
 -- a refused call changes neither its handle nor the queue
-abbrev pub ChangesNothing : Transition → Type 0
-ChangesNothing t = IsSame t.was t.now × (t.after ≡ t.before) × KeepsPop t
+abbrev pub ChangesNeither : Transition → Type 0
+ChangesNeither t = IsSame t.was t.now × (t.after ≡ t.before) × KeepsPop t
 
 -- nor does a call that isn't made
 abbrev pub IsNotMade : Transition → Type 0
@@ -162,49 +163,51 @@ ChangesSession t =
 -- the loads of a pop, by the state of its handle: none as it begins; with these bytes, if it goes on and
 -- the queue isn't stopped
 abbrev pub IsLoadedBy : state.ChainState → Transition → (bytes : List ℕ) → walked.PopOutcome → Loaded → Type 0
-IsLoadedBy at.Free t bytes reported loaded = loaded ≡ nothing
-IsLoadedBy st t bytes reported loaded =
+IsLoadedBy at.Free t bytes result loaded = loaded ≡ nothing
+IsLoadedBy st t bytes result loaded =
     t.before.stopped ≡ None →
-    AddsSo st (outcomes.On reported) t.now.descriptors.items (t.old.pops t.handle).loaded (whole t.was bytes)
+    AddsSo st (outcomes.On result) t.now.descriptors.items (t.old.pops t.handle).loaded (whole t.was bytes)
     loaded
 
 -- the events of a pop's call with this result, after these loads
-abbrev pub PopReports : Transition → Loaded → walked.PopOutcome → List LiveEvent → Type 0
-PopReports t loaded (shows.Load n) es = (es ≡ []) × ((t.new.pops t.handle).loaded ≡ loaded)
-PopReports t loaded (shows.Missing range access) es = es ≡ []
-PopReports t loaded shows.Idle es = es ≡ EndsPop t.queue loaded t.now.descriptors.items step.Idle ∷ []
-PopReports t loaded (shows.Refused e) es =
+abbrev pub PopEvents : Transition → Loaded → walked.PopOutcome → List LiveEvent → Type 0
+PopEvents t loaded (shows.Load n) es = (es ≡ []) × ((t.new.pops t.handle).loaded ≡ loaded)
+PopEvents t loaded (shows.Missing range access) es = es ≡ []
+PopEvents t loaded shows.Idle es = es ≡ EndsPop t.queue loaded t.now.descriptors.items step.Idle ∷ []
+PopEvents t loaded (shows.Refused e) es =
     (es ≡ EndsPop t.queue loaded t.now.descriptors.items (step.Refused e) ∷ [])
     ⊎ (es ≡ RefusesPop t.queue e ∷ [])
-PopReports t loaded (shows.Chain head request_len room_len) es =
+PopEvents t loaded (shows.Chain head request_len room_len) es =
     (es ≡ EndsPop t.queue loaded t.now.descriptors.items (step.Chain head None) ∷ [])
     × (request_len ≡ count false t.now.descriptors.items)
     × (room_len ≡ count true t.now.descriptors.items)
-PopReports t loaded (shows.Faulty head fault) es =
+PopEvents t loaded (shows.Faulty head fault) es =
     es ≡ EndsPop t.queue loaded t.now.descriptors.items (step.Chain head (Some fault)) ∷ []
 
-abbrev pub ReportsPop : Transition → (bytes : List ℕ) → Result outcome.LoadOutcome ChainError → List LiveEvent
+abbrev pub EventsOfPop : Transition → (bytes : List ℕ) → Result outcome.LoadOutcome ChainError →
+    List LiveEvent
     → Type 0
-ReportsPop t bytes (Err e) es = (es ≡ []) × ChangesNothing t × RefusesWalk t.was t.before bytes e
-ReportsPop t bytes (Ok outcomes.Part) es =
+EventsOfPop t bytes (Err e) es = (es ≡ []) × ChangesNeither t × RefusesAPop t.was t.before bytes e
+EventsOfPop t bytes (Ok outcomes.Part) es =
     (es ≡ []) × KeepsPop t × ProceedsSo t.was t.before bytes outcomes.Part t.now t.after
-ReportsPop t bytes (Ok (outcomes.On reported)) es =
-    ProceedsSo t.was t.before bytes (outcomes.On reported) t.now t.after
+EventsOfPop t bytes (Ok (outcomes.On result)) es =
+    ProceedsSo t.was t.before bytes (outcomes.On result) t.now t.after
     × (loaded : Loaded)
-    × IsLoadedBy t.was.state t bytes reported loaded
-    × PopReports t loaded reported es
+    × IsLoadedBy t.was.state t bytes result loaded
+    × PopEvents t loaded result es
 
 -- a pop by loads ahead has the loads that it took of them
-abbrev pub ReportsAhead : Transition → List AheadBytes → Result walked.PopOutcome ChainError → List LiveEvent
+abbrev pub EventsOfPopAhead : Transition → List AheadBytes → Result walked.PopOutcome ChainError →
+    List LiveEvent
     → Type 0
-ReportsAhead t ahead (Err e) es =
-    (es ≡ []) × ChangesNothing t × (ahead_error t.was.state t.before ≡ Some e)
-ReportsAhead t ahead (Ok reported) es =
-    (pop : PopsAhead ahead t.was t.now t.before t.after (outcomes.On reported))
+EventsOfPopAhead t ahead (Err e) es =
+    (es ≡ []) × ChangesNeither t × (ahead_error t.was.state t.before ≡ Some e)
+EventsOfPopAhead t ahead (Ok result) es =
+    (pop : PopsAhead ahead t.was t.now t.before t.after (outcomes.On result))
     × (loaded : Loaded)
-    × AddsAhead (last_first pop.first []) t.was t.now t.before t.after (outcomes.On reported) pop.walks
+    × AddsAhead (last_first pop.first []) t.was t.now t.before t.after (outcomes.On result) pop.walks
     loaded
-    × PopReports t loaded reported es
+    × PopEvents t loaded result es
 
 -- ---- decodes and answers
 
@@ -213,45 +216,45 @@ abbrev pub setting_of : (options now : ℕ) → List LiveEvent
 setting_of options now = if options == now then [] else SetsOptions options ∷ []
 
 -- the events of a decoding with this result: none if it needs more bytes
-abbrev pub DecodeReports : Transition → Session → (request : List ℕ) → Decoded → List LiveEvent → Type 0
-DecodeReports t session request (asks.More n) es = es ≡ []
-DecodeReports t session request reported es =
+abbrev pub DecodeEvents : Transition → Session → (request : List ℕ) → Decoded → List LiveEvent → Type 0
+DecodeEvents t session request (asks.More n) es = es ≡ []
+DecodeEvents t session request result es =
     (c : InFlightChain)
     × In (own t.handle c) t.old.owned
     × (es ≡ setting_of session.options.0 t.old.run.options
-    ++ DecodesRequest c request (calls_decoded (drop 80 request) reported) ∷ [])
+    ++ DecodesRequest c request (calls_decoded (drop 80 request) result) ∷ [])
     × In (own t.handle (asked_chain c request session.options.0 [])) t.new.owned
 
-abbrev pub ReportsDecode : Transition → Session → (front : List ℕ) → Unseen → Result Decoded ChainError →
+abbrev pub EventsOfDecode : Transition → Session → (front : List ℕ) → Unseen → Result Decoded ChainError →
     List LiveEvent → Type 0
-ReportsDecode t session front u (Err e) es =
-    (es ≡ []) × ChangesNothing t × (ask_error t.was.state (length front) ≡ Some e)
-ReportsDecode t session front u (Ok reported) es =
+EventsOfDecode t session front u (Err e) es =
+    (es ≡ []) × ChangesNeither t × (ask_error t.was.state (length front) ≡ Some e)
+EventsOfDecode t session front u (Ok result) es =
     let request = request_of front u (asked_len_of t.was.state) in
-    (wanted_by reported ≡ wanted_after front (asked_len_of t.was.state))
-    × ReportStandsIn session.options.0 front reported
+    (wanted_by result ≡ wanted_after front (asked_len_of t.was.state))
+    × ReportStandsIn session.options.0 front result
     × IfUndecoded t.was.state (λ out. ReportsMeaning
     (setting session.page_size session.options.0 out.room_len)
-    (meaning session.options.0 request out.room_len) (drop 80 request) out reported t.now.state)
+    (meaning session.options.0 request out.room_len) (drop 80 request) out result t.now.state)
     × ChangesSession t
     × (t.now.session ≡ session)
-    × DecodeReports t session request reported es
+    × DecodeEvents t session request result es
 
 -- the answer to a FORGET that is owed
 abbrev pub forgetting : InFlightChain → Option (Context × ℕ) → List LiveEvent
 forgetting c None = []
 forgetting c (Some node) = ReceivesAnswer c (Forget node.0 node.1 1) Done ∷ []
 
-abbrev pub ReportsAnswer : Transition → (serial : ℕ) → made_answer.FileAnswer → Unseen →
+abbrev pub EventsOfAnswer : Transition → (ticket : ℕ) → made_answer.FileAnswer → Unseen →
     Result Replied ChainError → List LiveEvent → Type 0
-ReportsAnswer t serial answer u (Err e) es =
-    (es ≡ []) × ChangesNothing t × IsNotTaken t.was serial answer e
-ReportsAnswer t serial answer u (Ok reported) es =
+EventsOfAnswer t ticket answer u (Err e) es =
+    (es ≡ []) × ChangesNeither t × IsNotTaken t.was ticket answer e
+EventsOfAnswer t ticket answer u (Ok result) es =
     let given = answer_of (data_of answer u) answer in
-    (serial_error t.was.state t.was.serial serial ≡ None)
-    × IfWaits t.was.state (λ out waiting.
+    (ticket_error t.was.state t.was.ticket ticket ≡ None)
+    × IfDecoded t.was.state (λ out waiting.
     IsGiven (setting t.was.session.page_size t.was.session.options.0 waiting.room) waiting answer out
-    t.now.session.options.0 reported t.now.state)
+    t.now.session.options.0 result t.now.state)
     × ChangesSession t
     × (t.now.session.page_size ≡ t.was.session.page_size)
     × (c : InFlightChain)
@@ -261,20 +264,20 @@ ReportsAnswer t serial answer u (Ok reported) es =
     × In (own t.handle c) t.old.owned
     × (c.phase ≡ Asked request options [])
     × (es ≡ ReceivesAnswer c call given
-    ∷ forgetting (asked_chain c request options ((call, given) ∷ [])) reported.forget)
+    ∷ forgetting (asked_chain c request options ((call, given) ∷ [])) result.forget)
 
 -- the request that a reply of the caller's own bytes is for
 abbrev pub replied_to : Phase → Unseen → (len : ℕ) → List ℕ
 replied_to (Asked request options calls) u len = request
 replied_to phase u len = exactly len u.request
 
-abbrev pub ReportsReply : Transition → (serial len : ℕ) → Unseen → Result (Unit {0}) ChainError →
+abbrev pub EventsOfReply : Transition → (ticket len : ℕ) → Unseen → Result (Unit {0}) ChainError →
     List LiveEvent → Type 0
-ReportsReply t serial len u (Err e) es =
-    (es ≡ []) × ChangesNothing t × (own_error t.was.state t.was.serial serial len ≡ Some e)
-ReportsReply t serial len u (Ok done) es =
-    (own_error t.was.state t.was.serial serial len ≡ None)
-    × IfUnanswered t.was.state (λ out. t.now ≡ record (t.was) { state = at.HasReply out (own_reply len) })
+EventsOfReply t ticket len u (Err e) es =
+    (es ≡ []) × ChangesNeither t × (own_error t.was.state t.was.ticket ticket len ≡ Some e)
+EventsOfReply t ticket len u (Ok done) es =
+    (own_error t.was.state t.was.ticket ticket len ≡ None)
+    × IfUnanswered t.was.state (λ out. t.now ≡ record (t.was) { state = at.Replied out (own_reply len) })
     × (t.after ≡ t.before)
     × (c : InFlightChain)
     × In (own t.handle c) t.old.owned
@@ -282,15 +285,15 @@ ReportsReply t serial len u (Ok done) es =
     t.old.run.options ∷ [])
 
 -- a listing to which no entry was added ends, by this answer to the reading of its directory
-abbrev pub ReportsListing : Transition → (serial : ℕ) → FileAnswer → (Result ℕ ChainError → Type 0) →
+abbrev pub EventsOfListing : Transition → (ticket : ℕ) → FileAnswer → (Result ℕ ChainError → Type 0) →
     Result ℕ ChainError → List LiveEvent → Type 0
-ReportsListing t serial answer Replies (Err e) es =
+EventsOfListing t ticket answer Replies (Err e) es =
     (es ≡ [])
-    × ChangesNothing t
-    × UnlessRefused {A = ℕ} (serial_error t.was.state t.was.serial serial) (Err e) (t.now ≡ t.was)
+    × ChangesNeither t
+    × UnlessRefused {A = ℕ} (ticket_error t.was.state t.was.ticket ticket) (Err e) (t.now ≡ t.was)
     (Replies (Err e))
-ReportsListing t serial answer Replies (Ok len) es =
-    (serial_error t.was.state t.was.serial serial ≡ None)
+EventsOfListing t ticket answer Replies (Ok len) es =
+    (ticket_error t.was.state t.was.ticket ticket ≡ None)
     × (c : InFlightChain)
     × (call : FileCall)
     × (request : List ℕ)
@@ -303,28 +306,28 @@ ReportsListing t serial answer Replies (Ok len) es =
     × Replies (Ok len)
 
 -- an entry, or the end of a listing, is refused
-abbrev pub RefusesEntries : (was now : ChainHandle) → (serial : ℕ) → (list : List ℕ) → List ListedEntry →
-    (names : List ℕ) → (failure : Option ℕ) → (last : Result Added ChainError) → ChainError → Type 0
-RefusesEntries was now serial list [] names failure last e = EndsSo failure was now serial (Err e)
-RefusesEntries was now serial list (entry ∷ entries) names failure last e =
-    (last ≡ Err e) × BringsSo was now serial list list entry (take entry.name_len names) (Err e)
+abbrev pub RefusesEntries : (was now : ChainHandle) → (ticket : ℕ) → (list : List ℕ) → List ListedEntry →
+    (names : List ℕ) → (failure : Option ℕ) → (last : Result AddOutcome ChainError) → ChainError → Type 0
+RefusesEntries was now ticket list [] names failure last e = EndsSo failure was now ticket (Err e)
+RefusesEntries was now ticket list (entry ∷ entries) names failure last e =
+    (last ≡ Err e) × BringsSo was now ticket list list entry (take entry.name_len names) (Err e)
 
 -- entries were brought to a listing, and it ended: its calls are answered now. The first bytes of the list
 -- are behind the reply's front
-abbrev pub GatherReports : Transition → (serial : ℕ) → List ListedEntry → (names : List ℕ) →
-    (failure : Option ℕ) → (added : ℕ) → (last : Result Added ChainError) → Result ℕ ChainError →
+abbrev pub GatherEvents : Transition → (ticket : ℕ) → List ListedEntry → (names : List ℕ) →
+    (failure : Option ℕ) → (added : ℕ) → (last : Result AddOutcome ChainError) → Result ℕ ChainError →
     (list : List ℕ) → List LiveEvent → Type 0
-GatherReports t serial entries names failure added last (Err e) list es =
+GatherEvents t ticket entries names failure added last (Err e) list es =
     (es ≡ [])
     × (added ≡ 0)
     × IsSameHeld t.was t.now
     × IsAllButPlace t.was t.now
     × (t.after ≡ t.before)
     × KeepsPop t
-    × RefusesEntries t.was t.now serial list entries names failure last e
-GatherReports t serial entries names failure added last (Ok len) list es =
+    × RefusesEntries t.was t.now ticket list entries names failure last e
+GatherEvents t ticket entries names failure added last (Ok len) list es =
     let left = drop added (all_brought entries names) in
-    (serial_error t.was.state t.was.serial serial ≡ None)
+    (ticket_error t.was.state t.was.ticket ticket ≡ None)
     × (added ≤ length entries)
     × IsOfLast last left
     × IsAllButPlace t.was t.now
@@ -335,44 +338,44 @@ GatherReports t serial entries names failure added last (Ok len) list es =
     × (out : InFlight)
     × (unique : ℕ)
     × (asked : ListRequest)
-    × (preserved : ChainReply)
+    × (kept : ChainReply)
     × In (own t.handle c) t.old.owned
     × (c.phase ≡ Asked request options [])
     × (meaning options request out.room_len ≡ Asks (Lists unique asked))
-    × (t.now.state ≡ at.HasReply out preserved)
+    × (t.now.state ≡ at.Replied out kept)
     × let calls = listing_calls (readdir_call asked) asked.with_nodes (take added (all_brought entries names))
     (ending_of last left failure) in
     (es ≡ answers_of c request options [] calls)
     × ((served_so t.old.run.page_size options request out.room_len calls).reply
-    ≡ front_of preserved ++ take len list)
+    ≡ front_of kept ++ take len list)
 
 -- ---- pushes, and chains that are given up
 
 -- a push begins: no event yet, but its stores are kept
-abbrev pub ReportsPush : Transition → Result PushStores ChainError → (front : List ℕ) → List LiveEvent →
+abbrev pub EventsOfPush : Transition → Result PushStores ChainError → (front : List ℕ) → List LiveEvent →
     Type 0
-ReportsPush t (Err e) front es =
+EventsOfPush t (Err e) front es =
     (es ≡ [])
-    × ChangesNothing t
+    × ChangesNeither t
     × (push_error (has_ring t.was.state t.was.regions) t.was.state t.before (length front) ≡ Some e)
-ReportsPush t (Ok stores) front es =
+EventsOfPush t (Ok stores) front es =
     (es ≡ [])
-    × (return_error t.was.state t.before (length front) ≡ None)
-    × IfHasReply t.was.state (λ out reply. PushesBy t.before out reply stores
+    × (push_refusal t.was.state t.before (length front) ≡ None)
+    × IfReplied t.was.state (λ out reply. PushesBy t.before out reply stores
     × ((behind : List ℕ) × (front ≡ front_of reply ++ behind))
     × (t.now ≡ record (t.was) { state = at.Pushing out }))
     × (t.after ≡ record (t.before) { pushing = true })
     × (t.new.pushes t.queue ≡ Some (record { handle = t.handle; stores = stores; front = front }))
 
 -- a push ends: its stores are those that its begin returned, and its reply begins with that front
-abbrev pub ReportsPushed : Transition → (seen : List ℕ) → Unseen → Result Bool ChainError →
+abbrev pub EventsOfPushed : Transition → (seen : List ℕ) → Unseen → Result Bool ChainError →
     List LiveEvent → Type 0
-ReportsPushed t seen u (Err e) es =
-    (es ≡ []) × ChangesNothing t × (end_error t.was.state t.before ≡ Some e)
-ReportsPushed t seen u (Ok notice) es =
+EventsOfPushed t seen u (Err e) es =
+    (es ≡ []) × ChangesNeither t × (end_error t.was.state t.before ≡ Some e)
+EventsOfPushed t seen u (Ok notice) es =
     (c : InFlightChain)
     × (x : Exchange)
-    × (b : Begun)
+    × (b : PushUnderWay)
     × In (own t.handle c) t.old.owned
     × (t.old.pushes t.queue ≡ Some b)
     × (b.handle ≡ t.handle)
@@ -381,73 +384,74 @@ ReportsPushed t seen u (Ok notice) es =
     × (t.now ≡ freed t.was)
     × (t.after ≡ gave t.before)
 
-abbrev pub GiveUpReports : Transition → (is_out : Bool) → List LiveEvent → Type 0
-GiveUpReports t false es = es ≡ []
-GiveUpReports t true es = (c : InFlightChain) × In (own t.handle c) t.old.owned × (es ≡ GivesUpChain c ∷ [])
+abbrev pub GiveUpEvents : Transition → (is_out : Bool) → List LiveEvent → Type 0
+GiveUpEvents t false es = es ≡ []
+GiveUpEvents t true es = (c : InFlightChain) × In (own t.handle c) t.old.owned × (es ≡ GivesUpChain c ∷ [])
 
-abbrev pub ReportsGiveUp : Transition → Result (Unit {0}) ChainError → List LiveEvent → Type 0
-ReportsGiveUp t (Err e) es =
-    (es ≡ []) × ChangesNothing t × (give_up_error t.was.state t.before ≡ Some e)
-ReportsGiveUp t (Ok done) es =
+abbrev pub EventsOfGiveUp : Transition → Result (Unit {0}) ChainError → List LiveEvent → Type 0
+EventsOfGiveUp t (Err e) es =
+    (es ≡ []) × ChangesNeither t × (give_up_error t.was.state t.before ≡ Some e)
+EventsOfGiveUp t (Ok done) es =
     (give_up_error t.was.state t.before ≡ None)
     × (t.now ≡ freed t.was)
     × (t.after ≡ (if is_out t.was.state then gave_up t.before else t.before))
-    × GiveUpReports t (is_out t.was.state) es
+    × GiveUpEvents t (is_out t.was.state) es
 
 -- a handle is freed: its chain stays in flight, without a handle
-abbrev pub AbandonReports : Transition → (is_out : Bool) → List LiveEvent → Type 0
-AbandonReports t false es = es ≡ []
-AbandonReports t true es =
+abbrev pub AbandonEvents : Transition → (is_out : Bool) → List LiveEvent → Type 0
+AbandonEvents t false es = es ≡ []
+AbandonEvents t true es =
     (c : InFlightChain)
     × In (own t.handle c) t.old.owned
     × (es ≡ Abandons c ∷ [])
     × In (lost (abandoned_chain c)) t.new.owned
 
-abbrev pub ReportsAbandon : Transition → List LiveEvent → Type 0
-ReportsAbandon t es =
-    IsFreed t.was t.now × (t.after ≡ t.before) × AbandonReports t (is_out t.was.state) es
+abbrev pub EventsOfAbandon : Transition → List LiveEvent → Type 0
+EventsOfAbandon t es =
+    IsFreed t.was t.now × (t.after ≡ t.before) × AbandonEvents t (is_out t.was.state) es
 
 -- ---- each call
 
 -- the events of a command of a handle, by what it returned. A request isn't decoded in a session of another
 -- page size, and a call of the queue is none of a handle
-abbrev pub Reports : Transition → Command → Unseen → Returned → List LiveEvent → Type 0
-Reports t (does.Pop bytes) u (gives.Popped r) es = ReportsPop t bytes.now r es
-Reports t (does.PopAhead ahead bytes) u (gives.PoppedAhead r) es =
-    ReportsAhead t (loads_ahead ahead.now bytes.now) r es
-Reports t (does.Decode session front) u (gives.Decoded r) es = ReportsDecode t session front.now u r es
-Reports t (does.Decode session front) u gives.OtherSession es =
+abbrev pub EventsOf : Transition → DriverCall → Unseen → Results → List LiveEvent → Type 0
+EventsOf t (does.Pop bytes) u (gives.Popped r) es = EventsOfPop t bytes.now r es
+EventsOf t (does.PopAhead ahead bytes) u (gives.PoppedAhead r) es =
+    EventsOfPopAhead t (loads_ahead ahead.now bytes.now) r es
+EventsOf t (does.Decode session front) u (gives.Decoded r) es = EventsOfDecode t session front.now u r es
+EventsOf t (does.Decode session front) u gives.OtherSession es =
     (es ≡ []) × IsNotMade t × (session.page_size ≡ t.page_size → ⊥)
-Reports t (does.Answer serial answer) u (gives.Answered r) es = ReportsAnswer t serial answer u r es
-Reports t (does.Reply serial len) u (gives.Replied r) es = ReportsReply t serial len u r es
-Reports t (does.EndListing serial) u (gives.Listed r) es =
-    ReportsListing t serial (Entries []) (λ reported. EndsByEntries t.was.state t.now.state reported) r es
-Reports t (does.FailListing serial errno) u (gives.Listed r) es =
-    ReportsListing t serial (Failed errno) (λ reported. EndsByError errno t.was.state t.now.state reported) r
+EventsOf t (does.Answer ticket answer) u (gives.Answered r) es = EventsOfAnswer t ticket answer u r es
+EventsOf t (does.Reply ticket len) u (gives.Replied r) es = EventsOfReply t ticket len u r es
+EventsOf t (does.EndListing ticket) u (gives.Listed r) es =
+    EventsOfListing t ticket (Entries []) (λ result. EndsByEntries t.was.state t.now.state result) r es
+EventsOf t (does.FailListing ticket errno) u (gives.Listed r) es =
+    EventsOfListing t ticket (Failed errno) (λ result. EndsByError errno t.was.state t.now.state result) r
     es
-Reports t (does.Gather serial entries names failure) u (gives.Gathered added last ended list) es =
-    GatherReports t serial entries.now names.now failure added last ended list es
-Reports t does.Push u (gives.Began r front) es = ReportsPush t r front es
-Reports t (does.Pushed seen) u (gives.Ended r) es = ReportsPushed t seen u r es
-Reports t does.GiveUp u (gives.GaveUp r) es = ReportsGiveUp t r es
-Reports t does.Abandon u gives.Abandoned es = ReportsAbandon t es
-Reports t (does.Reset i layout position) u gives.NotOfOne es = (es ≡ []) × IsNotMade t
-Reports t (does.Notify i wanted) u gives.NotOfOne es = (es ≡ []) × IsNotMade t
-Reports t (does.Remap alloc regions) u gives.NotOfOne es = (es ≡ []) × IsNotMade t
-Reports t (does.Move alloc regions) u gives.NotOfOne es = (es ≡ []) × IsNotMade t
-Reports t _ u _ es = ⊥
+EventsOf t (does.Gather ticket entries names failure) u (gives.Gathered added last ended list) es =
+    GatherEvents t ticket entries.now names.now failure added last ended list es
+EventsOf t does.Push u (gives.Began r front) es = EventsOfPush t r front es
+EventsOf t (does.Pushed seen) u (gives.Ended r) es = EventsOfPushed t seen u r es
+EventsOf t does.GiveUp u (gives.GaveUp r) es = EventsOfGiveUp t r es
+EventsOf t does.Abandon u gives.Abandoned es = EventsOfAbandon t es
+EventsOf t (does.Reset i layout position) u gives.NotOfOne es = (es ≡ []) × IsNotMade t
+EventsOf t (does.Notify i wanted) u gives.NotOfOne es = (es ≡ []) × IsNotMade t
+EventsOf t (does.Remap alloc regions) u gives.NotOfOne es = (es ≡ []) × IsNotMade t
+EventsOf t (does.Move alloc regions) u gives.NotOfOne es = (es ≡ []) × IsNotMade t
+EventsOf t _ u _ es = ⊥
 
 -- a call of a handle of a queue is a step of the run, among any other handles and queues, whatever it doesn't
 -- see
 unfoldable pub DrivesOne : (page_size : ℕ) → (w new : ChainHandle) → (q q' : QueueState) →
-    Command → Returned → Type 0
+    DriverCall → Results → Type 0
 DrivesOne page_size w new q q' command returned =
     (ws : List ChainHandle) (k : ℕ) → slice_get ws k ≡ Some w →
     (on : List ℕ) (qs : List QueueState) (i : ℕ) → slice_get on k ≡ Some i → slice_get qs i ≡ Some q →
-    (u : Unseen) (s : Machine) (os : List Owned) (pops : ℕ → Pop) (pushes : ℕ → Option Begun) →
+    (u : Unseen) (s : RunState) (os : List Owned) (pops : ℕ → Pop) (pushes : ℕ → Option PushUnderWay) →
     Driven s on page_size qs ws os pops pushes →
-    LeadsBy s on page_size (with_queue qs i q') (with_handle ws k new) k pops i pushes
-    (λ es d. Reports (transition i page_size k (desk s ws qs os pops pushes) d w new q q') command u returned
+    HasRunBy s on page_size (with_queue qs i q') (with_handle ws k new) k pops i pushes
+    (λ es d. EventsOf (transition i page_size k (driver s ws qs os pops pushes) d w new q q') command u
+    returned
     es)
 
 -- no handle of queue i has a chain in flight
@@ -467,9 +471,9 @@ of_others i os = filter (λ o. not (o.chain.queue == i)) os
 
 -- the events of a reset of queue i: its own, by which none of its chains is in flight any more, also none
 -- without a handle; or none, if it isn't done
-abbrev pub ResetReports : (on : List ℕ) → (i : ℕ) → QueueState → (d d' : Desk) → QueueLayout →
+abbrev pub ResetEvents : (on : List ℕ) → (i : ℕ) → QueueState → (d d' : Driver) → QueueLayout →
     (position : ℕ) → Bool → List LiveEvent → Type 0
-ResetReports on i q d d' layout position true es =
+ResetEvents on i q d d' layout position true es =
     (es ≡ ResetsQueue i (live_of (reset_to q layout position)) ∷ [])
     × MayReset on i d.handles q layout
     × (d'.queues ≡ with_queue d.queues i (reset_to q layout position))
@@ -477,7 +481,7 @@ ResetReports on i q d d' layout position true es =
     × (d'.owned ≡ of_others i d.owned)
     × (d'.pops ≡ d.pops)
     × (d'.pushes ≡ with_push d.pushes i None)
-ResetReports on i q d d' layout position false es =
+ResetEvents on i q d d' layout position false es =
     (es ≡ []) × (d' ≡ d) × (MayReset on i d.handles q layout → ⊥)
 
 -- the event of a store that enables or disables notifications, if its address is mapped
@@ -487,7 +491,7 @@ storing i places (Some store) =
     if reach places Write store.address 2 then StoresNotification i (store_of store) ∷ [] else []
 
 -- whether a command is one of a queue, or of all, and of no handle
-abbrev pub is_of_queue : Command → Bool
+abbrev pub is_of_queue : DriverCall → Bool
 is_of_queue (does.Reset i layout position) = true
 is_of_queue (does.Notify i wanted) = true
 is_of_queue (does.Remap alloc regions) = true
@@ -496,26 +500,26 @@ is_of_queue _ = false
 
 -- the events of a call of a queue, or of all, which is none of a handle. If there is no such queue, there are
 -- none
-abbrev pub ReportsOfQueue : (on : List ℕ) → (d d' : Desk) → Command → Returned → List LiveEvent → Type 0
-ReportsOfQueue on d d' (does.Reset i layout position) (gives.Reset done) es =
-    (q : QueueState) × (slice_get d.queues i ≡ Some q) × ResetReports on i q d d' layout position done es
-ReportsOfQueue on d d' (does.Reset i layout position) gives.NoQueue es =
+abbrev pub EventsOfQueue : (on : List ℕ) → (d d' : Driver) → DriverCall → Results → List LiveEvent → Type 0
+EventsOfQueue on d d' (does.Reset i layout position) (gives.Reset done) es =
+    (q : QueueState) × (slice_get d.queues i ≡ Some q) × ResetEvents on i q d d' layout position done es
+EventsOfQueue on d d' (does.Reset i layout position) gives.NoQueue es =
     (slice_get d.queues i ≡ None) × (es ≡ []) × (d' ≡ d)
-ReportsOfQueue on d d' (does.Notify i wanted) (gives.Store store) es =
+EventsOfQueue on d d' (does.Notify i wanted) (gives.Store store) es =
     (q : QueueState)
     × (slice_get d.queues i ≡ Some q)
     × (option_map store_of store ≡ notification_store q wanted)
     × (es ≡ storing i d.run.places store)
     × (d' ≡ d)
-ReportsOfQueue on d d' (does.Notify i wanted) gives.NoQueue es =
+EventsOfQueue on d d' (does.Notify i wanted) gives.NoQueue es =
     (slice_get d.queues i ≡ None) × (es ≡ []) × (d' ≡ d)
-ReportsOfQueue on d d' (does.Remap alloc regions) (gives.Remapped r) es =
-    RemapReports d d' regions.now r es
-ReportsOfQueue on d d' (does.Move alloc regions) (gives.Moved r) es = MoveReports d d' regions.now r es
-ReportsOfQueue on d d' _ _ es = ⊥
+EventsOfQueue on d d' (does.Remap alloc regions) (gives.Remapped r) es =
+    RemapEvents d d' regions.now r es
+EventsOfQueue on d d' (does.Move alloc regions) (gives.Moved r) es = MoveEvents d d' regions.now r es
+EventsOfQueue on d d' _ _ es = ⊥
 
 -- there is no handle k, or it has no queue
-abbrev pub IsMissing : (on : List ℕ) → Desk → (k : ℕ) → Type 0
+abbrev pub IsMissing : (on : List ℕ) → Driver → (k : ℕ) → Type 0
 IsMissing on d k =
     (slice_get d.handles k ≡ None)
     ⊎ (slice_get on k ≡ None)
@@ -523,8 +527,8 @@ IsMissing on d k =
 
 -- the call is one of handle k and its queue. Of the pops and of the pushes under way only theirs may change,
 -- and not another handle's push
-pub record IsCallOf (on : List ℕ) (page_size : ℕ) (d d' : Desk) (k : ℕ) (command : Command) (u : Unseen)
-    (returned : Returned) (es : List LiveEvent) : Type 0 where
+pub record IsCallOf (on : List ℕ) (page_size : ℕ) (d d' : Driver) (k : ℕ) (command : DriverCall) (u : Unseen)
+    (returned : Results) (es : List LiveEvent) : Type 0 where
   pub queue : ℕ
   pub was : ChainHandle
   pub now : ChainHandle
@@ -537,15 +541,15 @@ pub record IsCallOf (on : List ℕ) (page_size : ℕ) (d d' : Desk) (k : ℕ) (c
   pub queues : d'.queues ≡ with_queue d.queues queue after
   pub pop : Pop
   pub pops : d'.pops ≡ with_pop d.pops k pop
-  pub push : Option Begun
+  pub push : Option PushUnderWay
   pub pushes : d'.pushes ≡ with_push d.pushes queue push
   pub under_way : KeepsPush k (d.pushes queue) push
-  pub reports : Reports (transition queue page_size k d d' was now before after) command u returned es
+  pub reports : EventsOf (transition queue page_size k d d' was now before after) command u returned es
 
 -- the events of a call of one of the handles, of none if there is no such handle, or of a queue
-abbrev pub ReportsCall : (on : List ℕ) → (page_size : ℕ) → (d d' : Desk) → Called → Unseen →
+abbrev pub EventsOfCall : (on : List ℕ) → (page_size : ℕ) → (d d' : Driver) → Called → Unseen →
     List LiveEvent → Type 0
-ReportsCall on page_size d d' call u es =
+EventsOfCall on page_size d d' call u es =
     ((is_of_queue call.command ≡ false)
     × IsCallOf on page_size d d' call.place call.command u call.returned es)
     ⊎ ((is_of_queue call.command ≡ false)
@@ -553,21 +557,21 @@ ReportsCall on page_size d d' call u es =
     × (call.returned ≡ gives.NoHandle)
     × (es ≡ [])
     × (d' ≡ d))
-    ⊎ ReportsOfQueue on d d' call.command call.returned es
+    ⊎ EventsOfQueue on d d' call.command call.returned es
 
--- the events of calls one behind another. Those of each call lead from the desk before it to the desk after
+-- the events of calls one behind another. Those of each call lead from the state before it to the state after
 -- it
-abbrev pub ReportsAll : (on : List ℕ) → (page_size : ℕ) → (d : Desk) → List (Called × Unseen) →
-    List LiveEvent → (d' : Desk) → Type 0
-ReportsAll on page_size d [] es d' = (es ≡ []) × (d' ≡ d)
-ReportsAll on page_size d (z ∷ zs) es d' =
+abbrev pub EventsOfAll : (on : List ℕ) → (page_size : ℕ) → (d : Driver) → List (Called × Unseen) →
+    List LiveEvent → (d' : Driver) → Type 0
+EventsOfAll on page_size d [] es d' = (es ≡ []) × (d' ≡ d)
+EventsOfAll on page_size d (z ∷ zs) es d' =
     (first : List LiveEvent)
     × (later : List LiveEvent)
-    × (mid : Desk)
+    × (mid : Driver)
     × (es ≡ first ++ later)
-    × LeadsTo on page_size d mid first
-    × ReportsCall on page_size d mid z.0 z.1 first
-    × ReportsAll on page_size mid zs later d'
+    × RunsTo on page_size d mid first
+    × EventsOfCall on page_size d mid z.0 z.1 first
+    × EventsOfAll on page_size mid zs later d'
 
 -- calls, without what they don't see
 abbrev pub seen_of : List (Called × Unseen) → List Called
@@ -580,13 +584,13 @@ unfoldable pub Drives : (on : List ℕ) → (page_size : ℕ) → (ws ws' : List
 Drives on page_size ws ws' qs qs' calls =
     (zs : List (Called × Unseen)) →
     seen_of zs ≡ calls →
-    (s : Machine) (os : List Owned) (pops : ℕ → Pop) (pushes : ℕ → Option Begun) →
+    (s : RunState) (os : List Owned) (pops : ℕ → Pop) (pushes : ℕ → Option PushUnderWay) →
     Driven s on page_size qs ws os pops pushes →
-    Leads s on page_size qs' ws' (λ es d. ReportsAll on page_size (desk s ws qs os pops pushes) zs es d)
+    HasRun s on page_size qs' ws' (λ es d. EventsOfAll on page_size (driver s ws qs os pops pushes) zs es d)
 
 -- ---- lists of commands
 
 -- calls by their handles, their commands and what they returned
-abbrev pub calls_of : List ℕ → List Command → List Returned → List Called
+abbrev pub calls_of : List ℕ → List DriverCall → List Results → List Called
 calls_of (k ∷ ks) (c ∷ cs) (r ∷ rs) = call_of k c r ∷ calls_of ks cs rs
 calls_of ks cs rs = []

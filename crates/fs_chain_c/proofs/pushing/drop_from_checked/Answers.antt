@@ -1,5 +1,5 @@
 use Rattle.std.proofs.Common.{rules, refl, inl, inr}
-use Rattle.fs_chain_c.proofs.pushing.drop_preserved.Goals as goal
+use Rattle.fs_chain_c.proofs.pushing.drop_from_checked.Goals as goal
 
 pub returns-in-Ok : goal.returns-in-Ok
 returns-in-Ok c = inl (search rules, refl, search rules, search rules)
