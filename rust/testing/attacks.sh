@@ -1,7 +1,7 @@
 # Attacks of a guest's on virtiofsd and on this daemon: sourced by ./test. attacks.c makes each.
-# attacks.txt names them, and what comes of them; docs/DIFFERENCES.md has its rows.
+# attacks.txt names them, with their outcomes; docs/TRUST.md has its rows.
 
-# What comes of an attack: `goes on`, `ends`, `serves no more`, or `a file outside is reached`.
+# The outcome of an attack: `survives`, `ends`, `serves no more`, or `a file outside is reached`.
 outcome() {
     local daemon=$1 name=$2 status=0
     make_yard attack
@@ -9,13 +9,13 @@ outcome() {
     timeout $((SECONDS_EACH + 120)) "$work/attacks" "$daemon" "$work/yard/share" "$name" \
         "$SECONDS_EACH" > "$work/attack" 2> "$work/attack.errors" || status=$?
     case $status in
-    0) echo 'goes on' ;;
+    0) echo 'survives' ;;
     2) echo 'a file outside is reached' ;;
     *) grep -q ENDED "$work/attack" && echo ends || echo 'serves no more' ;;
     esac
 }
 
-# Each row of attacks.txt: by both daemons, and in DIFFERENCES.
+# Each row of attacks.txt: by both daemons, and in TRUST.
 hostile() {
     local name attack theirs ours wanted_theirs wanted_ours
     SECONDS_EACH=${SECONDS_EACH:-30}
@@ -28,10 +28,7 @@ hostile() {
         printf '%-20s virtiofsd: %-24s here: %s\n' "$name" "$theirs" "$ours"
         [ "$theirs|$ours" = "$wanted_theirs|$wanted_ours" ] ||
             failure "hostile $name: it isn't: $wanted_theirs, and here: $wanted_ours"
-        grep -qxF "|$attack|$wanted_theirs|$wanted_ours|" "$here/../docs/DIFFERENCES.md" ||
-            failure "hostile $name: DIFFERENCES has another row"
+        grep -qxF "|$attack|$wanted_theirs|$wanted_ours|" "$here/../docs/TRUST.md" ||
+            failure "hostile $name: TRUST has another row"
     done < "$here/testing/attacks.txt"
-    head -n 5 "$here/testing/attacks.txt" | sed 's/^[^|]*\(|.*\)/\1|/' |
-        diff - <(grep -A 6 '^|Attack of a guest' "$here/../README.md" | tail -n 5) ||
-        failure "hostile: README has other rows"
 }
