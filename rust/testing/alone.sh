@@ -36,7 +36,7 @@ snapshot() {
 try() {
     local program=$1 what=$2 status=0 priority=()
     make_yard "$what"
-    case $what in held) ! chrt -f 1 true 2> "$work/none" || priority=(chrt -f 1) ;; esac
+    case $what in held | looks) ! chrt -f 1 true 2> "$work/none" || priority=(chrt -f 1) ;; esac
     (
         ulimit -f 65536
         exec "${priority[@]}" timeout $((SECONDS_EACH + 600)) \
@@ -77,7 +77,8 @@ alone() {
     local threads
     check_unit
     SECONDS_EACH=${SECONDS_EACH:-60}
-    compile checks checks.c escape.c held.c labels.c platform.c slots.c stopped.c wild.c front.c
+    compile checks checks.c escape.c held.c labels.c looks.c platform.c slots.c stopped.c wild.c \
+        front.c
     compile hostile hostile.c front.c
     compile log log.c front.c
     compile state state.c moved.c front.c
@@ -123,6 +124,10 @@ alone() {
     THREADS=4 EVENT_INDEX=1 try checks sleeps "${SLEEPS:-500000}"
     try checks pauses "${PAUSES:-2000}"
     THREADS=4 EVENT_INDEX=1 try checks pauses "${PAUSES:-2000}"
+    THREADS=31 EVENT_INDEX=1 try checks pauses "${PAUSES:-2000}"
+    try checks looks "$SECONDS_EACH"
+    THREADS=4 try checks looks 5
+    THREADS=31 EVENT_INDEX=1 try checks looks 5
     EVENT_INDEX=1 try checks rings
     THREADS=4 EVENT_INDEX=1 try checks pool
     try hostile guest "$SECONDS_EACH"

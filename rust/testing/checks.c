@@ -500,6 +500,8 @@ static void run(const char *what, const char *dir, unsigned count) {
         sleep_on(1, count);
     else if (!strcmp(what, "pauses"))
         pauses(count);
+    else if (!strcmp(what, "looks"))
+        looks(count);
     else if (!strcmp(what, "log"))
         dirty_pages();
     else if (!strcmp(what, "rings"))
@@ -543,18 +545,20 @@ static const char *const *options_for(const char *what) {
     static const char *const chroot[] = {"--sandbox", "chroot", NULL};
     static const char *const labelled[] = {"--security-label", NULL};
     static const char *const listed[] = {"--posix-acl", NULL};
+    static const char *const polling[] = {"--poll-max-us", "10000", NULL};
     if (!strcmp(what, "readonly")) return only_read;
     if (!strcmp(what, "labels")) return labelled;
     if (!strcmp(what, "lists")) return listed;
     if (!strcmp(what, "wild")) return chroot;
+    if (!strcmp(what, "looks")) return polling;
     return strcmp(what, "config") ? NULL : tagged;
 }
 
 int main(int argc, char **argv) {
     if (argc < 4)
         die("usage: checks DAEMON DIR "
-            "escape|readonly|sleeps|pauses|log|rings|config|memory|slots|two|slow|leave|pool|held|"
-            "groups|labels|lists|platform|wild [N]");
+            "escape|readonly|sleeps|pauses|looks|log|rings|config|memory|slots|two|slow|leave|pool|"
+            "held|groups|labels|lists|platform|wild [N]");
     const char *what = argv[3], *dir = argv[2];
     front_begin(&front, argv[1], dir, options_for(what));
     if (!strcmp(what, "log")) front.features |= 1ull << 26;

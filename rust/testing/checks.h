@@ -27,6 +27,9 @@ void send_apart(size_t ring, unsigned k, uint32_t opcode, uint64_t node, const v
  * at once. */
 void held(const char *dir, unsigned seconds);
 
+/* In looks.c: threads that look for requests before they sleep, and so many seconds without any. */
+void looks(unsigned seconds);
+
 /* In slots.c: memory in as many slots as the back-end allows. */
 void slots(void);
 

@@ -264,32 +264,32 @@ void front_begin(struct front *front, const char *server, const char *dir,
     front_connect(front);
 }
 
-/* Processor time of a process, if it is of a session: 14 and 15 of proc_pid_stat(5) in ticks,
- * behind a name in brackets. */
-static unsigned long ticks_of(const char *process, pid_t wanted) {
+/* Nanoseconds of processor time of a process, by its clock, if it is of a session: 6 of
+ * proc_pid_stat(5), behind a name in brackets. */
+static double nanoseconds_of(const char *process, pid_t wanted) {
     char path[300], line[1024] = "";
     int session = 0;
-    unsigned long user = 0, system = 0;
+    clockid_t clock;
+    struct timespec time;
     snprintf(path, sizeof path, "/proc/%s/stat", process);
     FILE *file = fopen(path, "r");
     if (!file) return 0; /* it has ended */
     const char *rest = fgets(line, sizeof line, file) ? strrchr(line, ')') : NULL;
     fclose(file);
-    if (!rest || sscanf(rest, ") %*c %*d %*d %d %*d %*d %*u %*u %*u %*u %*u %lu %lu", &session,
-                        &user, &system) != 3)
-        return 0;
-    return session == wanted ? user + system : 0;
+    if (!rest || sscanf(rest, ") %*c %*d %*d %d", &session) != 1 || session != wanted) return 0;
+    if (clock_getcpuclockid((pid_t)strtol(process, NULL, 10), &clock)) return 0;
+    return clock_gettime(clock, &time) ? 0 : (double)time.tv_sec * 1e9 + (double)time.tv_nsec;
 }
 
 double front_processor(const struct front *front) {
-    unsigned long ticks = 0;
+    double nanoseconds = 0;
     DIR *processes = opendir("/proc");
     if (!processes) die("no /proc");
     for (struct dirent *entry; (entry = readdir(processes));)
         if (entry->d_name[0] >= '1' && entry->d_name[0] <= '9')
-            ticks += ticks_of(entry->d_name, front->pid);
+            nanoseconds += nanoseconds_of(entry->d_name, front->pid);
     closedir(processes);
-    return (double)ticks * 1e3 / (double)sysconf(_SC_CLK_TCK);
+    return nanoseconds / 1e6;
 }
 
 void front_leave(struct front *front) {

@@ -1,11 +1,11 @@
-/* What a request costs by a daemon, without a guest: rows DAEMON DIR COUNT [ROW AT_ONCE [BETWEEN]],
- * of all rows, or of one (from 0 on), one at a time (1) or several at once (0), with so many
- * microseconds between (0). Requests as a Linux guest cuts them: header, arguments, data, the
- * reply's header and its data in pieces of their own, which a table of the request's own names.
- * Prints for each kind the least of five runs of COUNT requests, in nanoseconds for a request: with
- * the driver's kicks and sleeps, without the time between requests. And of all five what the daemon
- * took of the processor for a request, and how often for a thousand of them one side told the
- * other. DIR gets a file `rows`. */
+/* What a request costs by a daemon, without a guest: rows DAEMON DIR COUNT [ROW AT_ONCE [BETWEEN]].
+ * All rows, one (from 0 on), or the `small` ones; one at a time (1), several at once (0) or `both`;
+ * with so many microseconds between (0). Requests as a Linux guest cuts them: header, arguments,
+ * data, the reply's header and its data in pieces of their own, which a table of the request's own
+ * names. Prints for each kind the least of five runs of COUNT requests, in nanoseconds for a
+ * request: with the driver's kicks and sleeps, without the time between requests. And of all five
+ * what the daemon took of the processor for a request, and how often for a thousand of them one
+ * side told the other. DIR gets a file `rows`. */
 #define _POSIX_C_SOURCE 200809L
 #include "front.h"
 #include <fcntl.h>
@@ -184,7 +184,14 @@ static void print_between(unsigned count) {
         print_row(&rows[READ], count / (1 + ways[k].between / SHARE), ways[k]);
 }
 
+/* Whether a row is asked for by `which`. */
+static bool is_wanted(const char *which, size_t k) {
+    if (!which) return true;
+    return strcmp(which, "small") ? strtoul(which, NULL, 10) == k : rows[k].data < MIDDLE;
+}
+
 int main(int argc, char **argv) {
+    const char *which = argc > 4 ? argv[4] : NULL, *ways = argc > 5 ? argv[5] : "both";
     if (argc != 4 && argc != 6 && argc != 7)
         die("usage: rows DAEMON DIR COUNT [ROW AT_ONCE [BETWEEN]]");
     unsigned count = (unsigned)strtoul(argv[3], NULL, 10);
@@ -197,10 +204,10 @@ int main(int argc, char **argv) {
     node = look_up(&front, ROOT, "rows");
     file = open_node(&front, node, O_RDWR);
     for (size_t k = 0; k < sizeof rows / sizeof *rows; k++) {
-        if (argc > 4 && strtoul(argv[4], NULL, 10) != k) continue;
+        if (!is_wanted(which, k)) continue;
         struct way one = {1, between, 0}, several = {rows[k].most_at_once, between, 0};
-        if (argc == 4 || argv[5][0] == '1') print_row(&rows[k], count, one);
-        if (argc == 4 || argv[5][0] != '1') print_row(&rows[k], count, several);
+        if (strcmp(ways, "0")) print_row(&rows[k], count, one);
+        if (strcmp(ways, "1")) print_row(&rows[k], count, several);
     }
     if (argc == 4) print_between(count);
     front_leave(&front);

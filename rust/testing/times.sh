@@ -1,5 +1,5 @@
 # The daemon and virtiofsd in turn: sourced by ./test. `times` has a guest read, write and look up;
-# `rows` has a driver ask without a guest, and `instructions` counts what that takes.
+# `rows` has a driver ask without a guest, and counts instructions.
 
 # Says which server is to be tried in each of so many rounds, in turn.
 turns() {
@@ -84,36 +84,27 @@ END
     chmod +x "$work/virtiofsd"
 }
 
-# Without a guest: rows.c. Its driver takes the event index, as Linux does.
+# Without a guest: rows.c, by rows.py. What is measured is what is shipped: the proved archive, if
+# there is one (`build` links it), and a daemon that is linked as a whole.
 rows() {
-    local kind daemon word
-    take_virtiofsd
+    make_rows
     make_virtiofsd
+    printf '#!/usr/bin/env bash\nexec %q "$@" --poll-max-us 0\n' "$DAEMON" > "$work/sleeping"
+    chmod +x "$work/sleeping"
+    python3 "$here/testing/rows.py" "$work" "$DAEMON" "$work/virtiofsd" || failure "rows"
+}
+
+instructions() {
+    make_rows
+    python3 "$here/testing/rows.py" --instructions "$work" || failure "instructions"
+}
+
+make_rows() {
+    take_virtiofsd
+    make_counted ours
+    make_counted virtiofsd
     compile rows rows.c front.c
-    rm -rf "$work/rows-share" "$work"/rows.*
-    mkdir -p "$work/rows-share"
-    for kind in $(turns "${ROUNDS:-5}"); do
-        [ "$kind" = ours ] && daemon=$DAEMON || daemon=$work/virtiofsd
-        EVENT_INDEX=${EVENT_INDEX:-1} "$work/rows" "$daemon" "$work/rows-share" \
-            "${REQUESTS:-20000}" \
-            > "$work/rows.lines" 2> "$work/rows.errors" ||
-            failure "rows of $kind: $(tail -n 3 "$work/rows.errors")"
-        for word in ROW PROCESSOR KICKS CALLS; do
-            sed -n "s/^$word \([0-9]*\) [^:]*: \(.*\)/\1\t\2/p" \
-                "$work/rows.lines" >> "$work/rows.$word.$kind"
-        done
-    done
-    echo "least and median of ${ROUNDS:-5} in turn: ours, virtiofsd, ratio of medians" \
-        "(below 1: ours is faster)"
-    echo "nanoseconds a request:"
-    compare "$work"/rows.ROW.{ours,virtiofsd}
-    echo "of these on the daemon's processors:"
-    compare "$work"/rows.PROCESSOR.{ours,virtiofsd}
-    echo "available buffer notifications for 1000 requests:"
-    compare "$work"/rows.KICKS.{ours,virtiofsd}
-    echo "and used buffer notifications:"
-    compare "$work"/rows.CALLS.{ours,virtiofsd}
-    ! perf_counts || instructions
+    rm -rf "$work/rows-share" "$work"/share-*
 }
 
 # Without a guest: load.c, by paths, and by file handles.
@@ -139,65 +130,25 @@ loads() {
     compare "$work"/loads.{ours,virtiofsd}
 }
 
-# Whether perf counts a process's instructions on this machine.
-perf_counts() {
-    [ -n "$(type -P perf)" ] && perf stat -x, -e instructions:u true 2>&1 | grep -q '^[0-9]'
-}
-
-# A daemon of a kind whose user instructions are counted, by perf or by valgrind.
+# A daemon of a kind whose user instructions valgrind counts, to the file COUNTED. Threads that look
+# for requests would count for what they look.
 make_counted() {
-    local kind=$1 counter program=("$DAEMON")
+    local kind=$1 program=("$DAEMON")
     [ "$kind" = ours ] || program=("$root/usr/lib64/ld-linux-x86-64.so.2" --library-path
         "$root/usr/lib/x86_64-linux-gnu" "$root/usr/libexec/virtiofsd")
-    if perf_counts; then
-        counter=(perf stat -x, -e instructions:u -o "$work/counted.out")
-    else
-        counter=(valgrind -q --tool=callgrind "--callgrind-out-file=$work/counted.out")
-    fi
-    cat > "$work/counted" << END
+    cat > "$work/counted-$kind" << END
 #!/usr/bin/env bash
 words=(--sandbox none --seccomp none)
+[ $kind = virtiofsd ] || words+=(--poll-max-us 0)
 while [ \$# -gt 0 ]; do
     case $kind-\$1 in
     virtiofsd---num-request-queues) shift 2 ;;
     *) words+=("\$1") && shift ;;
     esac
 done
-exec ${counter[*]@Q} ${program[*]@Q} "\${words[@]}"
+exec valgrind -q --tool=callgrind --callgrind-out-file="\$COUNTED" ${program[*]@Q} "\${words[@]}"
 END
-    chmod +x "$work/counted"
-}
-
-# The instructions of so many requests of a row, with those of a start and an end.
-count_row() {
-    EVENT_INDEX=${EVENT_INDEX:-1} "$work/rows" "$work/counted" "$work/rows-share" "$@" \
-        > "$work/counted.lines" 2> "$work/counted.errors" ||
-        failure "instructions: $(tail -n 3 "$work/counted.errors")"
-    sed -nE 's/^(totals: )?([0-9]+)($|,.*)/\2/p' "$work/counted.out" | head -n 1
-}
-
-# User instructions of a request, which no other load of the machine changes: the difference of two
-# runs. Without perf, valgrind counts; then the driver is much the faster side.
-instructions() {
-    local kind row once few many of what
-    take_virtiofsd
-    compile rows rows.c front.c
-    mkdir -p "$work/rows-share"
-    rm -f "$work"/instructions.*
-    for kind in ours virtiofsd; do
-        make_counted "$kind"
-        for row in 0 1 2 3 4 5 6 7 8; do
-            for once in 1 0; do
-                of=$((row < 5 ? 1 : 16)) # rows.c makes fewer of the large ones
-                few=$(count_row $((64 * of)) $row $once)
-                many=$(count_row $((320 * of)) $row $once)
-                what=$(sed -n 's/^ROW [^:]*: //p' "$work/counted.lines")
-                printf '%d\t%s\n' $(((many - few) / (5 * 256))) "$what"
-            done
-        done > "$work/instructions.$kind"
-    done
-    echo "user instructions of a request, twice each: ours, virtiofsd, ratio"
-    compare "$work"/instructions.{ours,virtiofsd}
+    chmod +x "$work/counted-$kind"
 }
 
 # git, and an archive of a repository with FILES files, 50 a directory: the guest's disk.
@@ -238,7 +189,7 @@ END
 # them: ours or virtiofsd, its threads, its queues (virtiofsd has one). The directories are in
 # memory. For a quiet run: chrt -f 10 rust/test feel.
 feel() {
-    local kind threads queues tag name device words=() tags=() servers=() options k
+    local kind threads queues tag name device words=() tags=() servers=() pids=() options k
     make_feel_disk
     run=$work/run-feel
     rm -rf "$run"
@@ -261,8 +212,10 @@ feel() {
         [ ${#tags[@]} = 0 ] || name=$tag words+=(-chardev "socket,id=$tag,path=$run/$tag")
         words+=(-device
             "vhost-user-fs-pci,chardev=$name,tag=$tag,queue-size=128,num-request-queues=$queues")
-        servers+=("$server") tags+=("$tag")
+        servers+=("$server") tags+=("$tag") pids+=("$tag=$server")
     done
+    python3 "$here/testing/feel_processor.py" "$run/console" "${pids[@]}" > "$run/processor" &
+    local follows=$!
     MEMORY=1536M DISK=$work/feel.disk qemu "$run" \
         "feel rounds=${ROUNDS:-5} tags=$(IFS=, && echo "${tags[*]}")" \
         "$run/${tags[0]}" -m 1536M -no-reboot "${words[@]}" ||
@@ -270,10 +223,12 @@ feel() {
     for k in "${!servers[@]}"; do
         wait "${servers[k]}" || failure "feel: ${tags[k]} ended with $?"
     done
+    kill "$follows" 2> "$work/none" || true
     umount "$work/feel"
     tr -d '\r' < "$run/console" | sed -n '/^== begin/,$p' > "$run/lines"
     ! grep '^FAILED' "$run/lines" || failure "feel: a row fails"
     grep -q '^== end' "$run/lines" || failure "feel: the guest didn't come to its end"
+    cat "$run/processor" >> "$run/lines"
     feel_table "$run/lines"
 }
 
@@ -282,13 +237,14 @@ feel_table() {
     python3 - "$1" << 'END'
 import collections, re, statistics, sys
 
-for unit in ("ms", "interrupts"):
+for unit in ("ms", "processor", "interrupts"):
     rows, tags = collections.defaultdict(lambda: collections.defaultdict(list)), []
     for line in open(sys.argv[1]):
         if found := re.match(rf"TIME ([0-9.]+) {unit}: (\S+) (.*)", line):
             rows[found[3]][found[2]].append(float(found[1]))
             if found[2] not in tags:
                 tags.append(found[2])
+    unit = {"processor": "milliseconds of the daemon's processors"}.get(unit, unit)
     print(f"{unit}, median and least: {', '.join(sorted(tags))}")
     for row, cells in rows.items():
         print(*(f"{statistics.median(cells[tag]):9.1f} {min(cells[tag]):9.1f}"

@@ -118,7 +118,7 @@ pub struct Options {
     /// requests come soon again. 0 sleeps at once, as virtiofsd does.
     #[arg(
         long,
-        default_value_t = 0,
+        default_value_t = 32,
         value_name = "MICROSECONDS",
         value_parser = clap::value_parser!(u32).range(0..=10_000)
     )]

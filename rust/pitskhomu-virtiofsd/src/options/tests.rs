@@ -28,6 +28,15 @@ fn lists_and_labels_imply_xattr_and_what_init_agrees_on() {
 }
 
 #[test]
+fn threads_poll_unless_they_must_not() {
+    assert_eq!(options("").expect("options").poll_max_us, 32);
+    for (words, most) in [("--poll-max-us=0", Ok(0)), ("--poll-max-us 10000", Ok(10_000))] {
+        assert_eq!(options(words).map(|options| options.poll_max_us), most);
+    }
+    assert!(options("--poll-max-us=10001").is_err());
+}
+
+#[test]
 fn the_last_of_two_opposites_holds() {
     let opposite = |words| options(words).expect(words).no_announce_submounts;
     assert!(!opposite("") && !opposite("--no-announce-submounts --announce-submounts"));

@@ -351,8 +351,9 @@ impl<'l, 's, Q: Queued, S: Server<Q>> Thread<'l, 's, Q, S> {
             (0..PAUSES).for_each(|_| hint::spin_loop());
             let mut state = self.looping.lock();
             let has_more = self.server.has_answered(&state) || self.sees_more(&mut state);
-            next = next.and_then(|look| state.polling.goes_on(look, Instant::now()));
-            if has_more || next.is_none() || !state.may_poll() {
+            let now = Instant::now();
+            next = next.and_then(|look| state.polling.goes_on(look, now, has_more));
+            if next.is_none() || !state.may_poll() {
                 drop(polled); // under the lock
                 return state;
             }
