@@ -37,6 +37,15 @@ replace_some() {
     THREADS=4 try_replaced times 10
 }
 
+# At least so many new daemons are killed at any moment. A run ends when one is that serves already.
+try_kills() {
+    local killed=0
+    while [ $killed -lt "$1" ]; do
+        try_replaced kills "$1"
+        killed=$((killed + $(sed -n 's/^\([0-9]*\) killed.*/\1/p' "$work/replaced-kills") + 0))
+    done
+}
+
 # A removed file that the guest holds.
 try_gone() {
     try_replaced gone
@@ -50,13 +59,13 @@ replace_all() {
     replace_some
     try_replaced between
     try_replaced race 50
-    THREADS=4 try_replaced kills 200
+    THREADS=4 try_kills 100
     EVENT_INDEX=1 THREADS=4 try_replaced times "$count"
     OPTIONS=$handles THREADS=4 try_replaced times "$count"
     OPTIONS=$handles EVENT_INDEX=1 try_replaced times "$count"
     OPTIONS=--inode-file-handles=mandatory THREADS=4 try_replaced times "$count"
     IOMMU=1 THREADS=4 try_replaced times "$count"
-    IOMMU=1 THREADS=4 try_replaced kills 100
+    IOMMU=1 THREADS=4 try_kills 50
     OPTIONS=--sandbox=chroot try_replaced times "$count"
     OPTIONS='--sandbox=none --seccomp=none' try_replaced times "$count"
     NODES=1000 THREADS=4 try_replaced times "$count"

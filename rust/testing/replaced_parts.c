@@ -67,7 +67,7 @@ void kills(struct replaced *r, int count) {
         /* the process in the sandbox, which is its child, and it */
         kill(-new, SIGKILL);
         if (wait_for(new, 5000) < 0) die("it isn't killed");
-        if (wait_for(r->serving, 30) == 0) {
+        if (wait_for(r->serving, 300) == 0) {
             /* Killed right after it took over: the guest has no daemon any more. */
             printf("%d killed, the last when it served; %d replaced\n", killed + 1, r->count);
             fflush(stdout);
