@@ -6,10 +6,12 @@ driver, which lacks one, and the program, which hasn't the commands that only th
 import re
 from collections import Counter
 
-from grammar import Fault, Files, NAMES, Server
 from memory import (
     LAST, NO_MEMORY, NO_SUCH_QUEUE, PAGE, Memory, Refused, TooMuchWork, bytes_at, length_of,
     singles)
+from reading import HEADER as REQUEST_HEADER, Fault, name_of
+from script_files import ScriptFiles
+from server import Server
 
 __all__ = ["LACKING", "Player", "TooMuchWork", "play"]
 LIMIT = 0x101000
@@ -134,7 +136,7 @@ class Machine:
         self.queues = []
         # Whether the driver accepted VIRTIO_F_EVENT_IDX.
         self.event_index = False
-        self.files = Files()
+        self.files = ScriptFiles()
         self.server = Server(self.files)
         self.coverage = coverage
         # Whether the header of the last reply lies over its data.
@@ -216,18 +218,19 @@ class Machine:
         self.files.calls = []
         self.header_meets_data = False
         if fault is None:
+            asked = name_of(request) if len(request) >= REQUEST_HEADER else "no header"
             try:
-                reply = self.server.answer(request, length_of(room))
+                reply = self.server.serve(request, length_of(room))
             except Fault as found:
                 fault = found
-            self.count_request(reply, fault)
+            self.count_request(asked, reply, fault)
             self.count_shape(singles(room, 0, len(reply)), singles(element + used_index, 0, 10))
-            self.header_meets_data = NAMES.get(self.server.opcode) in WITH_DATA and \
+            self.header_meets_data = asked in WITH_DATA and \
                 not set(singles(room, 0, HEADER)).isdisjoint(singles(room, HEADER, len(reply)))
         else:
             self.coverage["chain fault", str(fault)] += 1
         self.give_back(queue, head, element, used_index, room, reply)
-        name = "-" if fault is None else str(fault)
+        name = "-" if fault is None else fault.args[0]
         told = int(self.is_told(queue))
         return call_lines(self.files.calls) + [f"done {head} {len(reply)} {name} {told}"]
 
@@ -248,13 +251,11 @@ class Machine:
         index = self.memory.seen("used.idx", queue.position)
         self.memory.store(used_index, index.to_bytes(2, "little"))
 
-    def count_request(self, reply, fault):
+    def count_request(self, asked, reply, fault):
         """What was asked and how it ended, for the coverage."""
-        opcode = self.server.opcode
-        name = NAMES.get(opcode, "no opcode") if opcode is not None else "no header"
-        self.coverage["opcode", name] += 1
+        self.coverage["opcode", asked] += 1
         if fault is not None:
-            self.coverage["server fault", str(fault)] += 1
+            self.coverage["server fault", fault.args[0]] += 1
         elif reply:
             self.coverage["error answered", -int.from_bytes(reply[4:8], "little", signed=True)] += 1
         else:

@@ -2,7 +2,8 @@
 
 import struct
 
-from grammar import NAMES, RECORDS
+from reading import OPCODES
+from records import RECORDS
 
 BOUNDARIES = [0, 1, 2, 3, 4, 5, 7, 8, 15, 16, 17, 31, 32, 33, 63, 64, 127, 128, 255, 256, 4095,
     4096, 4097, 65535, 65536]
@@ -15,8 +16,7 @@ SIZES = [0, 1, 3, 5, 16, 31, 32, 33, 63, 64, 65, 159, 160, 161, 319, 320, 321, 1
 # The records of requests whose name isn't theirs.
 RECORD_OF = {
     "readdir": "read", "readdirplus": "read", "opendir": "open", "releasedir": "release",
-    "fsyncdir": "fsync",
-    "listxattr": "getxattr", "setxattr": "setxattr_compat",
+    "fsyncdir": "fsync", "listxattr": "getxattr",
 }
 # Behind the record: the number of names, and whether extensions may follow.
 NAMED = {
@@ -82,21 +82,17 @@ def extensions(rng):
 
 def fields(rng, record):
     """A record's fields, by chance."""
-    values = []
-    for kind in RECORDS[record].replace("44s", "B"):
-        width = {"Q": 8, "I": 4}.get(kind)
-        values.append(number(rng, width) if width else rng.randbytes(44))
-    return values
+    return [number(rng, width // 8) for width in RECORDS[record].widths.values()]
 
 
 def packed(record, values):
     """A record's bytes."""
-    return struct.pack("<" + RECORDS[record], *values)
+    return RECORDS[record].packer.pack(*values)
 
 
 def read_fields(rng):
     """The fields of READ and its like, mostly near what the file and the directory hold."""
-    values = fields(rng, "read")
+    values = fields(rng, "read_in")
     if rng.random() < 0.85:
         values[1] = rng.choice([0, 0, 0, 1, 2, 3, 4, 5, 6, 4095, 4096, 4097])
     if rng.random() < 0.85:
@@ -107,12 +103,12 @@ def read_fields(rng):
 def write_body(rng):
     """The body of WRITE, with its data."""
     data = rng.randbytes(rng.choice([0, 1, 2, 5, 16, 100, 300, 1000]))
-    values = fields(rng, "write")
+    values = fields(rng, "write_in")
     if rng.random() < 0.9:
         values[1] = rng.choice([0, 0, 1, 4, 5, 6, 10, 100, 4000, 4095, 4096, 4097])
         values[2] = rng.choice([len(data)] * 5
             + [0, len(data) + 1, max(0, len(data) - 1), 4096, 4095])
-    return packed("write", values) + data
+    return packed("write_in", values) + data
 
 
 def init_body(rng):
@@ -151,13 +147,13 @@ def body(rng, kind):
         "setxattr": setxattr_body}
     if kind in special:
         return special[kind](rng)
-    record = RECORD_OF.get(kind, kind)
+    record = RECORD_OF.get(kind, kind) + "_in"
     data = b""
-    if record == "read":
+    if record == "read_in":
         data = packed(record, read_fields(rng))
     elif record in RECORDS:
         data = packed(record, fields(rng, record))
-        if record == "getxattr" and rng.random() < 0.8:
+        if record == "getxattr_in" and rng.random() < 0.8:
             data = struct.pack("<II", rng.choice([0, 5, 0x100000, 0x100001]), 0)
     elif kind not in NAMED:
         data = rng.randbytes(rng.choice([0, 0, 8, 24]))
@@ -168,10 +164,10 @@ def body(rng, kind):
 def asked(rng, session):
     """An opcode: any, or one of those that are wanted most."""
     if session and rng.random() < 0.3:
-        return rng.choice([number for number, kind in NAMES.items() if kind in EXTENDED])
+        return rng.choice([number for number, kind in OPCODES.items() if kind in EXTENDED])
     if rng.random() < 0.45:
-        return rng.choice([number for number, kind in NAMES.items() if kind in FAVOURITES])
-    return rng.choice(list(NAMES))
+        return rng.choice([number for number, kind in OPCODES.items() if kind in FAVOURITES])
+    return rng.choice(list(OPCODES))
 
 
 def header(rng, length, opcode, node):
@@ -191,8 +187,8 @@ def reply_length(kind, data):
 def good_request(rng):
     """A request whose header is right, about a node that is there, and how many bytes its reply
     would have."""
-    opcode = rng.choice(list(NAMES))
-    kind = NAMES[opcode]
+    opcode = rng.choice(list(OPCODES))
+    kind = OPCODES[opcode]
     data = body(rng, kind)
     node = 2 if kind in ("read", "write") else rng.choice([1, 1, 2])
     return header(rng, 40 + len(data), opcode, node) + data, reply_length(kind, data)
@@ -201,7 +197,7 @@ def good_request(rng):
 def request(rng, session=False):
     """A request's bytes, and how many its reply would have. In a session extensions are read."""
     opcode = asked(rng, session)
-    kind = NAMES[opcode]
+    kind = OPCODES[opcode]
     data = body(rng, kind)
     wanted = reply_length(kind, data)
     length = 40 + len(data)

@@ -132,7 +132,7 @@ def outcome(server, row):
     try:
         end = server.serve(row.request, row.buffer)
     except Fault as fault:
-        end = str(fault)
+        end = " ".join(str(part) for part in fault.args)
     return server.files.calls, end, server.options
 
 

@@ -1,15 +1,17 @@
 #!/usr/bin/env python3
 """sharp.py FILE..
 
-Does one thing wrongly at a time in a server of its own (server.py). It reads or writes one field
-wrongly (a value cut to its lowest 8, 16 or 32 bits, or to none), flips one bit of the flags that
-have a meaning or of the options that it agrees on by itself, or leaves out one check. It prints
-those that no request of the FILEs (vectors/requests) notices and that aren't explained here. The
-last line is `N passed, M failed`; the status is 1 if M isn't 0."""
+Does one thing wrongly at a time in the plain server (tools/fuzz/server.py). It reads or writes one
+field wrongly (a value cut to its lowest 8, 16 or 32 bits, or to none), flips one bit of the flags
+that have a meaning or of the options that it agrees on by itself, or leaves out one check. It
+prints those that no request of the FILEs (vectors/requests) notices and that aren't explained here.
+The last line is `N passed, M failed`; the status is 1 if M isn't 0."""
 
+# pylint: disable=wrong-import-position
 import sys
 from pathlib import Path
 
+sys.path.append(str(Path(__file__).resolve().parents[1] / "fuzz"))
 from reading import ALL, OPCODES, Wrong
 from records import RECORDS, UNUSED
 from rows import differences, read

@@ -1,7 +1,8 @@
-"""A FUSE server for the vectors' file system, after virtiofsd's grammar. It shares nothing with
-those that it is compared with. It can read or write one field wrongly, or leave out one check."""
+"""A FUSE server after virtiofsd's grammar, for the vectors' file system and the script program's.
+It shares nothing with those that it is compared with. It can read or write one field wrongly, or
+leave out one check."""
 
-from files import Errno, quoted as text
+from files import Errno
 from reading import ALL, OPCODES, Fault, Reading, name_of
 from records import RECORDS
 
@@ -90,12 +91,12 @@ class Request(Reading):
     def do_lookup(self):
         """LOOKUP"""
         name = self.one_name(self.counted(0))
-        return self.new_entry(self.files.entry("lookup", *self.asker(), text(name)))
+        return self.new_entry(self.files.entry("lookup", *self.asker(), name))
 
     def named(self, call):
         """A call with a name."""
         name = self.one_name(self.counted(0))
-        self.files.done(call, *self.asker(), text(name))
+        self.files.done(call, *self.asker(), name)
         return b""
 
     def do_unlink(self):
@@ -114,7 +115,7 @@ class Request(Reading):
         """LINK"""
         old = self.read("link_in")["oldnodeid"]
         name = self.one_name(self.counted(8))
-        words = [*self.who(), old, self.asked("nodeid"), text(name)]
+        words = [*self.who(), old, self.asked("nodeid"), name]
         return self.new_entry(self.files.entry("link", *words))
 
     def renamed(self, record):
@@ -123,7 +124,7 @@ class Request(Reading):
         old, rest = self.first_name(self.counted(RECORDS[record].size))
         new = self.one_name(rest)
         flags = values["flags"] & self.flipped("bits: flags", 7) if "flags" in values else 0
-        words = [*self.asker(), values["newdir"], flags, text(old), text(new)]
+        words = [*self.asker(), values["newdir"], flags, old, new]
         self.files.done("rename", *words)
         return b""
 
@@ -154,20 +155,20 @@ class Request(Reading):
     def do_symlink(self):
         """SYMLINK"""
         _, (name, link), extensions = self.made(None, 2)
-        words = [*self.asker(), text(link), text(name), *extensions]
+        words = [*self.asker(), link, name, *extensions]
         return self.new_entry(self.files.entry("symlink", *words))
 
     def do_mknod(self):
         """MKNOD"""
         values, (name,), extensions = self.made("mknod_in", 1)
         numbers = [values[field] for field in ("mode", "rdev", "umask")]
-        words = [*self.asker(), *numbers, text(name), *extensions]
+        words = [*self.asker(), *numbers, name, *extensions]
         return self.new_entry(self.files.entry("mknod", *words))
 
     def do_mkdir(self):
         """MKDIR"""
         values, (name,), extensions = self.made("mkdir_in", 1)
-        words = [*self.asker(), values["mode"], values["umask"], text(name), *extensions]
+        words = [*self.asker(), values["mode"], values["umask"], name, *extensions]
         return self.new_entry(self.files.entry("mkdir", *words))
 
     def do_create(self):
@@ -175,7 +176,7 @@ class Request(Reading):
         values, (name,), extensions = self.made("create_in", 1)
         kill = self.has(values["open_flags"], 1, "kill")
         numbers = [values["mode"], kill, values["flags"], values["umask"]]
-        answer = self.files.create(*self.asker(), *numbers, text(name), *extensions)
+        answer = self.files.create(*self.asker(), *numbers, name, *extensions)
         return self.new_entry(answer[0], self.opened(answer[1]))
 
     def extensions(self, data):
@@ -234,7 +235,7 @@ class Request(Reading):
         self.check(part.rest, Fault("MissingParameter"), "a label's name")
         self.check(b"\0" in part.rest, Fault("DecodeMessage"), "a label's zero byte")
         name, _, part.rest = part.rest.partition(b"\0")
-        return [text(name), text(part.take(size, "a label"))]
+        return [name, part.take(size, "a label")]
 
     # Attributes.
 
@@ -267,11 +268,11 @@ class Request(Reading):
         record = "setxattr_in" if is_long else "setxattr_in_compat"
         values = self.read(record)
         name, value = self.first_name(self.counted(RECORDS[record].size))
-        why = Fault(f"InvalidXattrSize {values['size']} {len(value)}")
+        why = Fault("InvalidXattrSize", values["size"], len(value))
         self.check(len(value) == values["size"], why, "the value's size")
         known = values.get("setxattr_flags", 0) & self.flipped("bits: setxattr_flags", 1)
         flags = [values["flags"], known]
-        self.files.done("setxattr", *self.asker(), *flags, text(name), text(value))
+        self.files.done("setxattr", *self.asker(), *flags, name, value)
         return b""
 
     def counted_text(self, name, size, *words):
@@ -286,7 +287,7 @@ class Request(Reading):
         size = self.read("getxattr_in")["size"]
         data = self.counted(8)
         self.check(size <= LARGEST_BUFFER, Errno(ENOMEM), "the size")
-        return self.counted_text("getxattr", size, text(self.one_name(data)))
+        return self.counted_text("getxattr", size, self.one_name(data))
 
     def do_listxattr(self):
         """LISTXATTR"""
@@ -438,7 +439,7 @@ class Request(Reading):
         if plus and name in (b".", b".."):
             front = self.entry(({"nodeid": 0}, {"ino": ino, "mode": kind * 4096}))
         elif plus:
-            answer = self.files.entry("lookup", *self.asker(), text(name))
+            answer = self.files.entry("lookup", *self.asker(), name)
             front, found = self.entry(answer), answer[0]
         values = {"ino": ino, "off": offset, "namelen": len(name), "type": kind}
         data = front + self.packed("dirent", values) + name

@@ -28,7 +28,7 @@ SHARED += ("ext_header.", "secctx.", "supp_groups.", "check of a group", "check 
 
 
 class Fault(Exception):
-    """A request that has no reply; its text is the fault with its numbers."""
+    """A request that has no reply: the fault's name, and its numbers."""
 
 
 def name_of(request):

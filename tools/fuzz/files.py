@@ -100,7 +100,8 @@ class Files:
 
     def note(self, name, *words):
         """A call."""
-        self.calls.append(" ".join(str(word) for word in [name, *words]))
+        words = [quoted(word) if isinstance(word, bytes) else str(word) for word in words]
+        self.calls.append(" ".join([name, *words]))
 
     def fail(self, has_default=False):
         """The error of the mood, if it has one."""
@@ -158,7 +159,7 @@ class Files:
 
     def write(self, size, data, *words):
         """How many bytes were written."""
-        self.done("write", *words, quoted(data[:size]))
+        self.done("write", *words, data[:size])
         return min(size, len(data))
 
     def count(self, name, *words):
