@@ -16,6 +16,8 @@ use vhost::vhost_user::message::{FrontendReq, VhostUserMemoryRegion, VhostUserPr
 
 /// So many regions fit in one message.
 const REGIONS: usize = 8;
+/// The greatest length of a state in bytes.
+const STATE_MAX: u64 = 1 << 30;
 
 /// Says to a daemon why it doesn't take over.
 pub fn refuse(socket: OwnedFd, why: &str) {
@@ -196,7 +198,11 @@ impl<'g, F: ServedFs> Giving<'g, F> {
             self.start_ring(index)?;
         }
         let len = self.front_end.save(&self.control.pipe, Instant::now() + PATIENCE)?;
-        self.check_state()?;
+        // An earlier daemon that failed may still have the file, and write to it.
+        if len > STATE_MAX {
+            return Err(io::Error::other("the state is longer than any"));
+        }
+        self.check_state(len)?;
         #[allow(clippy::cast_possible_truncation, reason = "a state has at most 1 GB")]
         let longer = PATIENCE * (len / PATIENCE_BYTES) as u32;
         self.to.set_end(Instant::now() + PATIENCE + longer);
@@ -226,12 +232,12 @@ impl<'g, F: ServedFs> Giving<'g, F> {
 
     /// Refuses a state with a node that the new daemon wouldn't find, and drops the nodes that are
     /// gone for good. Only after a try that failed it looks at each file handle.
-    fn check_state(&self) -> io::Result<()> {
+    fn check_state(&self, len: u64) -> io::Result<()> {
         if !self.control.process.checks_state() {
             return Ok(());
         }
         let (mut pipe, mut state) = (&self.control.pipe, Vec::new());
-        pipe.read_to_end(&mut state)?;
+        pipe.take(len).read_to_end(&mut state)?;
         let len = state.len();
         let checked = self
             .core

@@ -11,12 +11,13 @@ use std::os::fd::{AsRawFd, OwnedFd};
 use std::sync::atomic::{AtomicI32, Ordering};
 use std::sync::Arc;
 use std::thread;
-use std::time::Duration;
+use std::time::{Duration, Instant};
 use vmm_sys_util::epoll::EventSet;
 use vmm_sys_util::eventfd::EventFd;
 
-/// The longest that a reader of the socket may pause.
-const LONGEST_PAUSE: Duration = Duration::from_secs(5);
+/// The longest that a reader of the socket may pause, and that its whole request may take: other
+/// readers, and SIGUSR1, wait for it.
+const LONGEST_PAUSE: Duration = Duration::from_secs(1);
 /// The most bytes of a reader's request.
 const MOST_ASKED: usize = 8192;
 
@@ -48,9 +49,12 @@ fn hold_signal(is_held: bool) {
 }
 
 /// Reads a request of HTTP to its end.
-fn read_request(reader: &mut impl Read) -> io::Result<Vec<u8>> {
-    let (mut request, mut bytes) = (Vec::new(), [0; 1024]);
+fn read_request(reader: &mut impl Read, longest: Duration) -> io::Result<Vec<u8>> {
+    let (mut request, mut bytes, begun) = (Vec::new(), [0; 1024], Instant::now());
     while !request.windows(4).any(|end| end == b"\r\n\r\n") && request.len() < MOST_ASKED {
+        if begun.elapsed() > longest {
+            return Err(io::ErrorKind::TimedOut.into());
+        }
         match reader.read(&mut bytes)? {
             0 => break,
             len => request.extend_from_slice(&bytes[..len]),
@@ -76,12 +80,16 @@ fn response(request: &[u8], text: impl FnOnce() -> String) -> String {
 /// Answers one reader of the socket. One that asks nothing only looks whether somebody listens.
 fn answer(reader: File, text: impl FnOnce() -> String) -> io::Result<()> {
     let mut asked = Pipe::new(reader.try_clone()?, EventSet::IN, LONGEST_PAUSE)?;
-    let request = read_request(&mut asked)?;
+    let slow = |e: io::Error| match e.kind() {
+        io::ErrorKind::TimedOut => io::Error::new(e.kind(), "it was slow"),
+        _ => e,
+    };
+    let request = read_request(&mut asked, LONGEST_PAUSE).map_err(slow)?;
     if request.is_empty() {
         return Ok(());
     }
     let mut answered = Pipe::new(reader, EventSet::OUT, LONGEST_PAUSE)?;
-    answered.write_all(response(&request, text).as_bytes())
+    answered.write_all(response(&request, text).as_bytes()).map_err(slow)
 }
 
 /// What the thread that answers needs.
@@ -162,7 +170,21 @@ mod tests {
         let (ours, theirs) = UnixStream::pair().expect("a socket");
         let asked =
             Pipe::new(File::from(OwnedFd::from(ours)), EventSet::IN, Duration::from_millis(50));
-        assert!(read_request(&mut asked.expect("a socket")).is_err());
+        assert!(read_request(&mut asked.expect("a socket"), LONGEST_PAUSE).is_err());
         drop(theirs);
+    }
+
+    #[test]
+    fn a_reader_that_sends_a_byte_now_and_then_is_not_waited_for() {
+        struct Bytes;
+        impl Read for Bytes {
+            fn read(&mut self, bytes: &mut [u8]) -> io::Result<usize> {
+                thread::sleep(Duration::from_millis(1));
+                bytes[0] = b'x';
+                Ok(1)
+            }
+        }
+        let e = read_request(&mut Bytes, Duration::from_millis(20)).expect_err("too slow");
+        assert_eq!(e.kind(), io::ErrorKind::TimedOut);
     }
 }
