@@ -194,7 +194,7 @@ fn shared_dir(options: &mut Options) -> Result<String, Failure> {
 /// another daemon serves it.
 pub fn run(mut options: Options, foreground: Option<File>, logger: &Logger) -> Result<(), Failure> {
     signals::handle();
-    let starter = Starter::new(foreground);
+    let starter = Starter::new(foreground, options.take_over.is_some());
     log_build();
     let shared_dir = shared_dir(&mut options)?;
     let capabilities = capabilities::Changes::new(&options)?;

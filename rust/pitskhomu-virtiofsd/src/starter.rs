@@ -81,14 +81,15 @@ pub struct Starter {
     systemd: Option<File>,
     /// Connected to the process in the foreground.
     foreground: Option<File>,
-    /// The number of the process that was started, which is the service's main process.
-    process: u32,
+    /// The number of the process that was started, if the service's main process is another until
+    /// then. A service that passes its socket on to a daemon of its own stays the main process.
+    process: Option<u32>,
 }
 
 impl Starter {
     /// Connects to systemd, if it started the daemon (`NOTIFY_SOCKET`). Call it before the sandbox,
     /// which has neither the socket's path nor this process's number.
-    pub fn new(foreground: Option<File>) -> Starter {
+    pub fn new(foreground: Option<File>, takes_over: bool) -> Starter {
         let systemd = env::var_os("NOTIFY_SOCKET").and_then(|name| match connect(&name) {
             Ok(systemd) => Some(systemd),
             Err(e) => {
@@ -99,16 +100,17 @@ impl Starter {
                 None
             }
         });
-        Starter { systemd, foreground, process: std::process::id() }
+        Starter { systemd, foreground, process: takes_over.then(std::process::id) }
     }
 
     /// Tells them that this daemon serves, or listens for a front-end.
     pub fn serves(&mut self) {
         if let Some(mut systemd) = self.systemd.take() {
-            let message = format!("READY=1\nMAINPID={}", self.process);
+            let process = self.process.map(|process| format!("\nMAINPID={process}"));
+            let message = format!("READY=1{}", process.unwrap_or_default());
             match systemd.write_all(message.as_bytes()) {
-                Ok(()) => debug!("systemd is told that process {} serves", self.process),
-                Err(e) => warn!("systemd isn't told that process {} serves: {e}", self.process),
+                Ok(()) => debug!("systemd is told that this daemon serves"),
+                Err(e) => warn!("systemd isn't told that this daemon serves: {e}"),
             }
         }
         if let Some(mut foreground) = self.foreground.take() {
@@ -121,25 +123,31 @@ impl Starter {
 mod tests {
     use super::*;
     use std::os::fd::AsRawFd;
+    use std::path::PathBuf;
 
     #[test]
     fn systemd_is_told_once() {
         let name = format!("pitskhomu-starter-{}", std::process::id());
         let path = env::temp_dir().join(&name);
         let abstract_name = SocketAddr::from_abstract_name(&name).expect("a name");
-        for (theirs, name) in [
-            (UnixDatagram::bind_addr(&abstract_name), format!("@{name}").into()),
-            (UnixDatagram::bind(&path), path.clone().into_os_string()),
+        for (theirs, name, process, said) in [
+            (
+                UnixDatagram::bind_addr(&abstract_name),
+                PathBuf::from(format!("@{name}")),
+                None,
+                "READY=1",
+            ),
+            (UnixDatagram::bind(&path), path.clone(), Some(7), "READY=1\nMAINPID=7"),
         ] {
             let theirs = theirs.expect("a socket");
-            let systemd = connect(&name).expect("connected");
-            let mut starter = Starter { systemd: Some(systemd), foreground: None, process: 7 };
+            let systemd = connect(name.as_os_str()).expect("connected");
+            let mut starter = Starter { systemd: Some(systemd), foreground: None, process };
             starter.serves();
             starter.serves();
             theirs.set_nonblocking(true).expect("a socket");
             let mut bytes = [0; 64];
             let len = theirs.recv(&mut bytes).expect("a message");
-            assert_eq!(&bytes[..len], b"READY=1\nMAINPID=7");
+            assert_eq!(&bytes[..len], said.as_bytes());
             assert!(theirs.recv(&mut bytes).is_err());
         }
         std::fs::remove_file(&path).expect("removed");
@@ -152,7 +160,7 @@ mod tests {
         let (mut ours, theirs) = UnixStream::pair().expect("sockets");
         let number = theirs.as_raw_fd();
         let foreground = Some(File::from(OwnedFd::from(theirs)));
-        Starter { systemd: None, foreground, process: 7 }.serves();
+        Starter { systemd: None, foreground, process: None }.serves();
         let mut bytes = Vec::new();
         ours.read_to_end(&mut bytes).expect("the end");
         assert_eq!(bytes, b"1", "{number}");

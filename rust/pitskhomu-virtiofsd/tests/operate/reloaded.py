@@ -118,7 +118,7 @@ def number(daemon):
 def reloaded(old, program, *options):
     """Replaced under load. The old one must not end before systemd has the new one's number."""
     systemd = old.systemd
-    must(systemd.hear() == {"READY": "1", "MAINPID": str(old.process.pid)}, "no READY=1")
+    must(systemd.hear() == {"READY": "1"}, "no READY=1")
     front = old.front().begin()
     load, serving, first = Load(front), old, old
     try:
