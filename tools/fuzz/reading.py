@@ -59,7 +59,7 @@ class Reading:
         self.rest = request
         self.room = room
         self.name = ALL
-        self.head = None
+        self.head = self.call = None
 
     def is_wrong(self, what, request=None):
         """Whether this is the one thing that is done wrongly."""

@@ -14,6 +14,13 @@ WANTED = sum(1 << bit for bit in [0, 3, 5, 11, 12, 15, 18, 22, 27, 30, 34, 40])
 INIT_EXT, SETXATTR_EXT, SECURITY_CTX, CREATE_SUPP_GROUP = (1 << bit for bit in (30, 29, 32, 34))
 SETATTR_BITS = sum(1 << bit for bit in [0, 1, 2, 3, 4, 5, 7, 8, 10, 11])
 FATTR_FH = 1 << 6
+# Calls that are passed some fields of a record, and have an empty reply.
+PASSED = {
+    "access": ("access_in", "mask"), "releasedir": ("release_in", "flags", "fh"),
+    "flush": ("flush_in", "fh", "lock_owner"),
+    "fallocate": ("fallocate_in", "fh", "mode", "offset", "length"),
+}
+
 
 class Server:
     """Answers one request after another."""
@@ -44,7 +51,8 @@ class Request(Reading):
             self.check(length <= LARGEST_LENGTH, Errno(ENOMEM), "the greatest length")
             if opcode not in OPCODES:
                 raise Errno(ENOSYS)
-            body, number = getattr(self, "do_" + OPCODES[opcode])(), 0
+            self.call = OPCODES[opcode]
+            body, number = getattr(self, "do_" + self.call)(), 0
         except Errno as error:
             body, number = b"", -error.number
         return b"" if body is None else self.reply(number, body)
@@ -55,7 +63,6 @@ class Request(Reading):
         reply = self.packed("out_header", values) + body
         self.check(len(reply) <= self.room, Fault("EncodeMessage"), "the reply's room")
         return reply
-
 
     # What replies have.
 
@@ -93,23 +100,13 @@ class Request(Reading):
         name = self.one_name(self.counted(0))
         return self.new_entry(self.files.entry("lookup", *self.asker(), name))
 
-    def named(self, call):
-        """A call with a name."""
+    def do_unlink(self):
+        """UNLINK, RMDIR, REMOVEXATTR"""
         name = self.one_name(self.counted(0))
-        self.files.done(call, *self.asker(), name)
+        self.files.done(self.call, *self.asker(), name)
         return b""
 
-    def do_unlink(self):
-        """UNLINK"""
-        return self.named("unlink")
-
-    def do_rmdir(self):
-        """RMDIR"""
-        return self.named("rmdir")
-
-    def do_removexattr(self):
-        """REMOVEXATTR"""
-        return self.named("removexattr")
+    do_rmdir = do_removexattr = do_unlink
 
     def do_link(self):
         """LINK"""
@@ -118,8 +115,9 @@ class Request(Reading):
         words = [*self.who(), old, self.asked("nodeid"), name]
         return self.new_entry(self.files.entry("link", *words))
 
-    def renamed(self, record):
-        """RENAME and RENAME2"""
+    def do_rename(self):
+        """RENAME, RENAME2"""
+        record = self.call + "_in"
         values = self.read(record)
         old, rest = self.first_name(self.counted(RECORDS[record].size))
         new = self.one_name(rest)
@@ -128,13 +126,7 @@ class Request(Reading):
         self.files.done("rename", *words)
         return b""
 
-    def do_rename(self):
-        """RENAME"""
-        return self.renamed("rename_in")
-
-    def do_rename2(self):
-        """RENAME2"""
-        return self.renamed("rename2_in")
+    do_rename2 = do_rename
 
     # New nodes.
 
@@ -256,9 +248,13 @@ class Request(Reading):
         return self.attributes(self.files.attributes("setattr", *self.asker(), *words))
 
     def do_access(self):
-        """ACCESS"""
-        self.files.done("access", *self.asker(), self.read("access_in")["mask"])
+        """ACCESS, RELEASEDIR, FLUSH, FALLOCATE"""
+        record, *fields = PASSED[self.call]
+        values = self.read(record)
+        self.files.done(self.call, *self.asker(), *(values[field] for field in fields))
         return b""
+
+    do_releasedir = do_flush = do_fallocate = do_access
 
     # Extended attributes, links, the file system.
 
@@ -275,25 +271,18 @@ class Request(Reading):
         self.files.done("setxattr", *self.asker(), *flags, name, value)
         return b""
 
-    def counted_text(self, name, size, *words):
-        """Bytes, or their count."""
-        answer = self.files.text(name, *self.asker(), size, *words, size=size)
+    def do_getxattr(self):
+        """GETXATTR, LISTXATTR"""
+        size = self.read("getxattr_in")["size"]
+        data = [self.counted(8)] if self.call == "getxattr" else []
+        self.check(size <= LARGEST_BUFFER, Errno(ENOMEM), "the size")
+        names = [self.one_name(name) for name in data]
+        answer = self.files.text(self.call, *self.asker(), size, *names, size=size)
         if isinstance(answer, int):
             return self.packed("getxattr_out", {"size": answer})
         return answer
 
-    def do_getxattr(self):
-        """GETXATTR"""
-        size = self.read("getxattr_in")["size"]
-        data = self.counted(8)
-        self.check(size <= LARGEST_BUFFER, Errno(ENOMEM), "the size")
-        return self.counted_text("getxattr", size, self.one_name(data))
-
-    def do_listxattr(self):
-        """LISTXATTR"""
-        size = self.read("getxattr_in")["size"]
-        self.check(size <= LARGEST_BUFFER, Errno(ENOMEM), "the size")
-        return self.counted_text("listxattr", size)
+    do_listxattr = do_getxattr
 
     def do_readlink(self):
         """READLINK"""
@@ -332,39 +321,14 @@ class Request(Reading):
         self.files.done("release", *self.asker(), *words)
         return b""
 
-    def do_releasedir(self):
-        """RELEASEDIR"""
-        values = self.read("release_in")
-        self.files.done("releasedir", *self.asker(), values["flags"], values["fh"])
-        return b""
-
-    def synced(self, call):
-        """FSYNC and FSYNCDIR"""
+    def do_fsync(self):
+        """FSYNC, FSYNCDIR"""
         values = self.read("fsync_in")
         data_only = self.has(values["fsync_flags"], 1, "data")
-        self.files.done(call, *self.asker(), data_only, values["fh"])
+        self.files.done(self.call, *self.asker(), data_only, values["fh"])
         return b""
 
-    def do_fsync(self):
-        """FSYNC"""
-        return self.synced("fsync")
-
-    def do_fsyncdir(self):
-        """FSYNCDIR"""
-        return self.synced("fsyncdir")
-
-    def do_flush(self):
-        """FLUSH"""
-        values = self.read("flush_in")
-        self.files.done("flush", *self.asker(), values["fh"], values["lock_owner"])
-        return b""
-
-    def do_fallocate(self):
-        """FALLOCATE"""
-        values = self.read("fallocate_in")
-        words = [values[name] for name in ("fh", "mode", "offset", "length")]
-        self.files.done("fallocate", *self.asker(), *words)
-        return b""
+    do_fsyncdir = do_fsync
 
     def do_lseek(self):
         """LSEEK"""
@@ -404,15 +368,8 @@ class Request(Reading):
     # Directories.
 
     def do_readdir(self):
-        """READDIR"""
-        return self.listed(False)
-
-    def do_readdirplus(self):
-        """READDIRPLUS"""
-        return self.listed(True)
-
-    def listed(self, plus):
-        """The entries that fit, in order."""
+        """READDIR, READDIRPLUS: the entries that fit, in order."""
+        plus = self.call == "readdirplus"
         values = self.read("read_in")
         size = values["size"]
         self.check(size <= LARGEST_BUFFER, Errno(ENOMEM), "the size")
@@ -431,6 +388,8 @@ class Request(Reading):
                 break
             body += data
         return body
+
+    do_readdirplus = do_readdir
 
     def list_entry(self, entry, plus, left, room):
         """The bytes of an entry, or None if it ends the list. One that doesn't fit is forgotten."""
@@ -494,9 +453,11 @@ class Request(Reading):
 
     # Calls without arguments.
 
-    def passed_on(self, call):
+    def do_getlk(self):
         """A call that is passed nothing, and whose good answer is no reply."""
-        self.files.done(call)
+        self.files.done(self.call)
+
+    do_setlk = do_setlkw = do_bmap = do_ioctl = do_poll = do_notify_reply = do_getlk
 
     def do_tmpfile(self):
         """TMPFILE"""
@@ -504,13 +465,7 @@ class Request(Reading):
         raise Errno(ENOSYS)
 
     def do_setup_mapping(self):
-        """SETUPMAPPING and REMOVEMAPPING"""
+        """SETUPMAPPING, REMOVEMAPPING"""
         raise Errno(ENOSYS)
 
     do_remove_mapping = do_setup_mapping
-
-    def __getattr__(self, name):
-        calls = ("getlk", "setlk", "setlkw", "bmap", "ioctl", "poll", "notify_reply")
-        if name.removeprefix("do_") in calls:
-            return lambda: self.passed_on(name.removeprefix("do_"))
-        raise AttributeError(name)
