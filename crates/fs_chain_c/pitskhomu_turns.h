@@ -20,7 +20,8 @@
  *     waits, and a thread that takes it calls pk_turn_woken next;
  *  4. a thread whose answer comes after its chain began to wait first adds the chain to those that
  *     wait for a thread, and then signals the threads' event;
- *  5. who resets the queue calls pk_turns_reset, or pk_turns_begin if no thread serves it;
+ *  5. who resets the queue calls pk_turns_reset, or pk_turns_begin if no thread serves it; if it
+ *     is the former, the threads' event was signalled after pk_turns_begin, too;
  *  6. the driver keeps VIRTIO 1.2, 2.7.13 and 2.7.14. */
 #ifndef PITSKHOMU_TURNS_H
 #define PITSKHOMU_TURNS_H
