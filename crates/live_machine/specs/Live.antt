@@ -308,7 +308,7 @@ pub record PushesChainSo {F : Type 0} (s : LiveState F) (c : InFlightChain) (x :
   pub proceeds : PushedWith s.page_size c c.phase x
   pub used_is : used ≡ stores_after_reply (returning w) c.head (length x.reply)
   pub two : length seen ≡ 2
-  pub decoded : notice ≡ wants w seen
+  pub reported : notice ≡ wants w seen
   pub state : after ≡ after_push s before behind c w
 
 -- two writable bytes are mapped at this address
