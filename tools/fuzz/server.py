@@ -151,17 +151,13 @@ class Request(Reading):
         return self.new_entry(self.files.entry("symlink", *words))
 
     def do_mknod(self):
-        """MKNOD"""
-        values, (name,), extensions = self.made("mknod_in", 1)
-        numbers = [values[field] for field in ("mode", "rdev", "umask")]
-        words = [*self.asker(), *numbers, name, *extensions]
-        return self.new_entry(self.files.entry("mknod", *words))
+        """MKNOD, MKDIR"""
+        values, (name,), extensions = self.made(self.call + "_in", 1)
+        values.pop("padding", None)
+        words = [*self.asker(), *values.values(), name, *extensions]
+        return self.new_entry(self.files.entry(self.call, *words))
 
-    def do_mkdir(self):
-        """MKDIR"""
-        values, (name,), extensions = self.made("mkdir_in", 1)
-        words = [*self.asker(), values["mode"], values["umask"], name, *extensions]
-        return self.new_entry(self.files.entry("mkdir", *words))
+    do_mkdir = do_mknod
 
     def do_create(self):
         """CREATE"""
