@@ -1,11 +1,11 @@
 """The script program's file system: the root, node 1, and its file `a`, node 2."""
 
-from files import Errno, Files
+from files import ENOENT, Errno, Files
 
-ENOENT, EFBIG = 2, 27
+EFBIG = 27
 GREATEST_FILE = 4096
-# The calls that it answers by itself, each with how many of its words it prints: behind user,
-# group and process its node, and a name or a count. The others have the answers of `default`.
+# The calls that are printed (vectors/SCRIPT.md), and how many words of each: after user, group and
+# process come its node, and a name or a count. Other calls are answered as in the mood `default`.
 PRINTED = {"init": 0, "lookup": 2, "forget": 2, "getattr": 1, "read": 1, "write": 1, "readdir": 1}
 
 
@@ -35,10 +35,9 @@ class ScriptFiles(Files):
         if name not in PRINTED:
             self.fail()
         node = self.about((1,) if name == "lookup" else (1, 2), name, *words)
-        if name == "lookup":
-            if words[4] != b"a":
-                raise Errno(ENOENT)
-            node = 2
+        if name == "lookup" and words[4] != b"a":
+            raise Errno(ENOENT)
+        node = 2 if name == "lookup" else node
         attr = {"ino": node, "mode": 0o40755, "nlink": 2, "blksize": 4096}
         if node == 2:
             attr |= {"size": len(self.contents), "mode": 0o100644, "nlink": 1}
