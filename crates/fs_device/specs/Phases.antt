@@ -123,4 +123,4 @@ pub record IsReturned {F : Type 0} (before : State F) (i : ℕ) (t : Taken) (has
     before.queues i t) (reply : List ℕ) (notice : Bool) (after : State F) : Type 0 where
   pub state :
       after ≡ after_return before i has.queue t.head (room_of has.fetched) reply before.options before.files
-  pub turns : notice ≡ wants_notice after.memory has.queue
+  pub reported : notice ≡ wants_notice after.memory has.queue
