@@ -27,11 +27,11 @@ pub fn read_loads()
     law_reads_are_loads();
 }
 
-/// The read of a byte doesn't depend on the byte after it.
+/// The guest reads a byte. The same read is a run over a machine whose next byte is another one.
 pub fn confine_a_read<F: FileSystem>()
-    ensures { (files : F) (ran : RunReported F.may (machine (tiny 7) files) one_read ([] ∷ [])
-        (machine (tiny 7) files))
-        → AllowsToo F.may (machine (tiny 7) files) (machine (tiny 9) files) (machine (tiny 7) files) one_read
+    ensures { (files : F)
+        → (ran : RunReported F.may (machine (tiny 7) files) one_read ([] ∷ []) (machine (tiny 7) files))
+        × AllowsToo F.may (machine (tiny 7) files) (machine (tiny 9) files) (machine (tiny 7) files) one_read
         ([] ∷ []) ran }
 {
     law_confinement::<F>();
