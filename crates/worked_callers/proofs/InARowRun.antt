@@ -16,32 +16,53 @@ use Rattle.server_meanings.specs.Grammar.{meaning, meant, row}
 use Rattle.server_meanings.specs.Serving.{May}
 use Rattle.plain_machine.specs.Examples.{queue}
 use Rattle.plain_machine.specs.StepBy.{FindFlags}
-use Rattle.live_machine.specs.Live.{DecodesRequestSo, EndsPopSo, PushesChainSo, event_acts}
-use Rattle.live_machine.specs.Overlap.{at_positions, destroy, first, first_loads, first_table, second, second_loads, state}
+use Rattle.live_machine.specs.Live.{DecodesRequestSo, EndsPopSo, PushesChainSo, ReceivesAnswerSo, event_acts}
+use Rattle.live_machine.specs.Overlap.{at_positions, destroy, first, first_loads, first_table, second, second_loads, second_table, state}
 use Rattle.live_machine.specs.Overlap.{unknown}
 use Rattle.live_machine.specs.Serial.{FoundIn, SerialRun, return_in}
 use Rattle.live_machine.specs.Several.{LiveQueue}
 use Rattle.live_machine.proofs.OverlapRun.{first_fetches, first_there, second_fetches, second_there, answers, returns}
 use Rattle.live_machine.proofs.Queues.{same_some}
 use Rattle.worked_callers.specs.InARow.{after_both, after_one, first_asked, first_exchange, first_used, one, second_answered, second_asked}
-use Rattle.worked_callers.specs.InARow.{two, with_both}
+use Rattle.worked_callers.specs.InARow.{second_exchange, second_used, two, with_both}
 
 -- ---- the run
 
-first_walks : {F : Type 0} (f : F) →
+pub first_walks : {F : Type 0} (f : F) →
     EndsPopSo (state f (at_positions 0 0) 1 []) 0 first_loads first_table (step.Chain 0 None) (state f (at_positions 1 0) 1 (first ∷ []))
 first_walks f =
     record { w = at_positions 0 0; there = refl; room = refl; proceeds = refl; mapped = first_there; ends = (first_fetches, refl, tt) }
 
-first_asks : {F : Type 0} (f : F) →
+pub first_asks : {F : Type 0} (f : F) →
     DecodesRequestSo (state f (at_positions 1 0) 1 (first ∷ [])) first unknown [] (state f (at_positions 1 0) 1 (first_asked ∷ []))
 unfolding addresses meaning record_parser meant row reply_bytes error_bytes fields.field_bytes
 first_asks f = record { before = []; behind = []; out = refl; fresh = refl; whole = refl; reports = refl; state = refl }
 
-first_returns : {F : Type 0} (f : F) → PushesChainSo (state f (at_positions 1 0) 1 (first_asked ∷ [])) first_asked first_exchange true 0
+pub first_returns : {F : Type 0} (f : F) → PushesChainSo (state f (at_positions 1 0) 1 (first_asked ∷ [])) first_asked first_exchange true 0
     first_used (le16 0) (state f (at_positions 1 1) 1 [])
 unfolding addresses meaning record_parser meant row reply_bytes error_bytes fields.field_bytes
 first_returns f = returns [] (at_positions 1 0) refl refl (refl, refl) refl refl refl
+
+pub second_walks : {F : Type 0} (f : F) →
+    EndsPopSo (state f (at_positions 1 1) 1 []) 0 second_loads second_table (step.Chain 2 None) (state f (at_positions 2 1) 1 (second ∷ []))
+second_walks f =
+    record { w = at_positions 1 1; there = refl; room = refl; proceeds = refl; mapped = second_there; ends = (second_fetches, refl, tt) }
+
+pub second_asks : {F : Type 0} (f : F) → DecodesRequestSo (state f (at_positions 2 1) 1 (second ∷ [])) second destroy (Destroy ∷ [])
+    (state f (at_positions 2 1) 1 (second_asked ∷ []))
+unfolding addresses meaning record_parser meant row reply_bytes error_bytes fields.field_bytes
+second_asks f = record { before = []; behind = []; out = refl; fresh = refl; whole = refl; reports = refl; state = refl }
+
+pub second_answers : {F : Type 0} (may : May F) (before after : F) → may before Destroy Done after →
+    ReceivesAnswerSo may (state before (at_positions 2 1) 1 (second_asked ∷ [])) second_asked Destroy Done
+    (state after (at_positions 2 1) 0 (second_answered ∷ []))
+unfolding addresses meaning record_parser meant row reply_bytes error_bytes fields.field_bytes
+second_answers may before after so = answers [] destroy 1 after refl refl refl refl so refl
+
+pub second_returns : {F : Type 0} (f : F) → PushesChainSo (state f (at_positions 2 1) 0 (second_answered ∷ [])) second_answered
+    second_exchange true 0 second_used (le16 0) (state f (at_positions 2 2) 0 [])
+unfolding addresses meaning record_parser meant row reply_bytes error_bytes fields.field_bytes
+second_returns f = returns [] (at_positions 2 1) refl refl (refl, refl) refl refl refl
 
 -- ---- what the memory has
 
@@ -117,14 +138,14 @@ in_a_row {F} may before after so = (
     (tt, (tt, tt)),
     (
       state before (at_positions 2 1) 1 (second ∷ []),
-      record { w = at_positions 1 1; there = refl; room = refl; proceeds = refl; mapped = second_there; ends = (second_fetches, refl, tt) },
+      second_walks before,
       (
         state before (at_positions 2 1) 1 (second_asked ∷ []),
-        record { before = []; behind = []; out = refl; fresh = refl; whole = refl; reports = refl; state = refl },
+        second_asks before,
         (
           state after (at_positions 2 1) 0 (second_answered ∷ []),
-          answers [] destroy 1 after refl refl refl refl so refl,
-          (state after (at_positions 2 2) 0 [], returns [] (at_positions 2 1) refl refl (refl, refl) refl refl refl, refl),
+          second_answers may before after so,
+          (state after (at_positions 2 2) 0 [], second_returns after, refl),
         ),
       ),
     ),

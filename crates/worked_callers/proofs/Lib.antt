@@ -1,5 +1,6 @@
 pub mod AmidListings
 pub mod HeldPop
+pub mod InALoopRun
 pub mod InARowRun
 pub mod MissedEvent
 pub mod ModelActs

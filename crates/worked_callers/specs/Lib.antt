@@ -1,4 +1,5 @@
 pub mod AmidListings
+pub mod InALoop
 pub mod InARow
 pub mod Marks
 pub mod Notified

@@ -1,12 +1,14 @@
-//! Chains of one queue, one after another: a law of the live machine on worked values.
+//! Chains of one queue, one after another: theorems of the live machine on worked values.
 
 ghost use Rattle.std.specs.Prelude.{[], ◌∷◌, None};
 ghost use Rattle.plain_machine.specs.Run.{KickRun};
 ghost use Rattle.live_machine.specs.Overlap.{at_positions, state};
 ghost use Rattle.live_machine.specs.Serial.{plain, turn_of};
 ghost use Rattle.fuse_fs.specs.Calls.{Destroy, Done};
+ghost use Rattle.worked_callers.specs.InALoop.{SleepsServed};
 ghost use Rattle.worked_callers.specs.InARow.{after_both, one, two, with_both};
 
+use fs_turn_calls::law_runs_lose_no_turn;
 use fuse_fs::FileSystem;
 use live_machine::law_serial;
 
@@ -19,4 +21,12 @@ pub fn law_served_turns<F: FileSystem>()
         (turn_of one ∷ turn_of two ∷ []) None (plain (state after (at_positions 2 2) 0 []) after_both) }
 {
     law_serial::<F>();
+}
+
+/// A thread pops and pushes these two chains, interrupts the driver after each, and sleeps. Then no chain of
+/// the queue is available, and no push wants an interrupt.
+pub fn law_served_in_a_loop<F: FileSystem>()
+    ensures { (before after : F) → F.may before Destroy Done after → SleepsServed F.may before after }
+{
+    law_runs_lose_no_turn::<F>();
 }
