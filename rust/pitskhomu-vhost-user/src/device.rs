@@ -239,7 +239,7 @@ impl<F: ServedFs> Core<F> {
     }
 
     /// Waits for the calls of `held_calls`, at most `LAST_CHAINS`, and returns those that are left.
-    /// The chains of a ring that stands don't end before it goes on, so nobody waits for them.
+    /// The chains of a ring that stands don't end before it continues, so nobody waits for them.
     pub fn calls_left(&self) -> Option<String> {
         let end = Instant::now() + LAST_CHAINS;
         loop {

@@ -8,7 +8,7 @@
 //! answer, with an event index or without. That these threads do so is tested.
 //!
 //! An answer may come later ([`Builder::start_by_values`]): then the chain waits with a worker of
-//! its own, and the thread goes on. So more chains may be in flight than there are threads
+//! its own, and the thread continues. So more chains may be in flight than there are threads
 //! ([`Builder::in_flight`]).
 //!
 //! The guest's addresses are physical with a [`Builder`]. A device that needs more runs the same

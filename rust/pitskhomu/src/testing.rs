@@ -320,7 +320,7 @@ mod tests {
         }
     }
 
-    /// A guest asks more often than 16 bits count: positions wrap, and go on.
+    /// A guest asks more often than 16 bits count: positions wrap, and continue.
     #[test]
     fn a_guest_may_ask_for_ever() {
         let first = u16::MAX - 10;

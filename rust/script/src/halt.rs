@@ -30,7 +30,7 @@ pub enum Missing {
     HeaderOverData,
 }
 
-/// Why the machine can't go on.
+/// Why the machine can't continue.
 #[derive(Clone, Copy, Debug)]
 pub enum Stuck {
     Missing(Missing),

@@ -117,7 +117,7 @@ impl Ring {
         Numbers { in_flight: state.queue.in_flight(), at_the_host, sleeps, interrupts }
     }
 
-    /// Whether chains are in flight that don't end before the ring goes on.
+    /// Whether chains are in flight that don't end before the ring continues.
     pub fn holds(&self) -> bool {
         let state = self.lock();
         state.queue.in_flight() > 0 && self.is_closed.load(Ordering::SeqCst)

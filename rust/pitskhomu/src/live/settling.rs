@@ -71,7 +71,7 @@ impl<Q: Queued> Loop<Q> {
         state
     }
 
-    /// Ends them without a wait: the threads go on, and pop the chains that are left.
+    /// Ends them without a wait: the threads continue, and pop the chains that are left.
     pub fn go_on(&self, state: &mut Locked<Q>) {
         state.until = None;
         self.look();

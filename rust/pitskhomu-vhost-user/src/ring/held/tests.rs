@@ -309,7 +309,7 @@ fn offered_many() -> Tried {
     tried
 }
 
-/// Stops the ring in time, without a chain in flight. The other chains are served when it goes on.
+/// Stops the ring in time, without a chain in flight. It serves the others once it continues.
 fn settles(tried: &Tried) -> Option<u16> {
     let before = Instant::now();
     let base = tried.stop();
