@@ -7,6 +7,7 @@ pub mod ModelActs
 pub mod Offered
 pub mod OverFiles
 pub mod Popped
+pub mod Recorded
 pub mod Results
 pub mod StaysAlike
 pub mod TwoPasses

@@ -1,18 +1,20 @@
 -- The events of the worked runs: up to a chain's return, and of the whole run.
-use Rattle.std.specs.Prelude.{◌≡◌, false, true, List, [], ◌∷◌, ◌++◌, None, Some, map, slice_get}
+use Rattle.std.specs.Prelude.{◌≡◌, ℕ, false, true, List, [], ◌∷◌, ◌++◌, None, Some, map, slice_get}
 use Rattle.fs_queue.specs.Returning.{Store}
 use Rattle.fs_regions.specs.declared.step.CourseStep.TheVariants as step
 use Rattle.fuse_fs.specs.Calls.{Destroy, Done, FileRun}
+use Rattle.vm_memory.specs.Memory.{Memory}
 use Rattle.plain_machine.specs.Step.{Exchange, State}
 use Rattle.server_meanings.specs.Examples.{le16}
 use Rattle.server_meanings.specs.Serving.{May}
 use Rattle.live_machine.specs.Live.{DecodesRequest, EndsPop, Happens, LiveEvent, LiveRun, LiveState}
-use Rattle.live_machine.specs.Live.{InFlightChain, PushesChain, ReceivesAnswer, calls_in}
+use Rattle.live_machine.specs.Live.{FillsBuffer, InFlightChain, PushesChain, ReceivesAnswer, calls_in}
 use Rattle.live_machine.specs.Overlap as overlap
 use Rattle.live_machine.specs.Rounds.{BeginsEvent, CopiesByte, GuestWrites, MarksPages, Migration}
 use Rattle.live_machine.specs.Rounds.{RoundMoment, StoresByte, TakesMarks}
 use Rattle.live_machine.specs.Runs.{IsAStep, IsBefore}
 use Rattle.live_machine.specs.Several.{LiveQueue}
+use Rattle.worked_callers.specs.InARow.{first_asked}
 
 -- the second chain is popped and returned while the call of the first one is pending, which is answered then
 abbrev pub overlap_events : List LiveEvent
@@ -64,3 +66,15 @@ LeadsToAStep {F} may start es after c x used =
     → (w : LiveQueue)
     × (slice_get now.queues c.queue ≡ Some w)
     × IsAStep may m files w c x 0 used (le16 0) true)
+
+-- the first chain of InARow.antt, decoded
+abbrev pub first_in_flight : {F : Type 0} → F → LiveState F
+first_in_flight files = overlap.state files (overlap.at_positions 1 0) 1 (first_asked ∷ [])
+
+-- two bytes are stored in its reply buffer
+abbrev pub fills_at : (address : ℕ) → LiveEvent
+fills_at address = FillsBuffer first_asked (record { address = address; bytes = 7 ∷ 0 ∷ [] } ∷ [])
+
+-- the device after both chains of InARow.antt, over another memory
+abbrev pub moved_to : {F : Type 0} → Memory → F → LiveState F
+moved_to m files = record (overlap.state files (overlap.at_positions 2 2) 0 []) { places = m }
