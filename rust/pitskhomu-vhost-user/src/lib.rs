@@ -60,11 +60,43 @@
 //!     -object memory-backend-memfd,id=mem,size=1G,share=on \
 //!     -chardev socket,id=fs,path=/run/hello.sock -device vhost-user-fs-pci,chardev=fs,tag=hello
 //! ```
-//! In the guest: `mount -t virtiofs hello /mnt`.
+//! In the guest: `mount -t virtiofs hello /mnt`, and `cat /mnt/hello`. (`ls` needs `readdir`, too.)
 //!
 //! # Answers that come later
 //! [`Builder::serve_by_values`] hands each request to you as a value, with an object that takes its
-//! answer, on any thread: the example `in_memory`.
+//! answer, on any thread. Here another thread answers each READ, by the same methods:
+//! ```no_run
+//! use pitskhomu::prelude::*;
+//! use pitskhomu_vhost_user::{Builder, Error, Handler};
+//! use std::{sync::Arc, thread};
+//!
+//! struct Later<F>(Arc<F>);
+//!
+//! impl<F: FileSystem + Send + Sync + 'static> Handler for Later<F> {
+//!     fn call(&self, request: Request<'_>) {
+//!         let files = self.0.clone();
+//!         if let Operation::Read { .. } = request.operation {
+//!             if let Ok(request) = request.into_owned() {
+//!                 thread::spawn(move || request.answer_by(&*files)); // of READ nothing is undone
+//!             }
+//!         } else if let Err(unsent) = request.answer_by(&*files) {
+//!             files.cancelled(unsent.cancelled()); // it came too late
+//!         }
+//!     }
+//!
+//!     fn cancelled(&self, cancelled: &Cancelled) {
+//!         self.0.cancelled(cancelled);
+//!     }
+//!
+//!     fn session_ended(&self) {
+//!         self.0.destroy();
+//!     }
+//! }
+//!
+//! fn serve<F: FileSystem + Send + Sync + 'static>(files: Arc<F>) -> Result<(), Error> {
+//!     Builder::new().threads(4).serve_by_values("/run/later.sock", Later(files))
+//! }
+//! ```
 //!
 //! # What the device does
 //! - **It stops when the VMM says so.** A call of your file system that takes its time delays no

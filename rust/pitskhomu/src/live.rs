@@ -156,9 +156,10 @@ pub trait Handler: Send + Sync {
     /// Answers a request, or hands its [`Reply`](crate::Reply) on. A panic answers EIO.
     fn call(&self, request: Request<'_>);
 
-    /// An answer that the guest doesn't get is to be undone ([`FileSystem::cancelled`]). The
-    /// default does nothing. [`Cancelled::undo`] calls the methods of a file system. After a panic
-    /// the rest of it isn't undone.
+    /// An answer that the guest doesn't get is to be undone ([`FileSystem::cancelled`]). It isn't
+    /// called for one that [`Reply::send`](crate::Reply::send) has given back as too late: undo
+    /// that where you sent it. The default does nothing. [`Cancelled::undo`] calls the methods of a
+    /// file system. After a panic the rest of it isn't undone.
     fn cancelled(&self, _cancelled: &Cancelled) {}
 
     /// The session has ended without DESTROY, since the device was reset: the guest holds no node,
