@@ -153,6 +153,10 @@ impl Builder {
     /// A method may take its time: that delays its thread alone, and no message of the VMM's by
     /// more than 0.1 s. [`FileSystem::reply_by_bytes`] isn't asked.
     ///
+    /// For one VMM after another call it again. One that connects before the new socket is there is
+    /// disconnected, and may try again. If a VMM gives the device a channel for requests of its own
+    /// (QEMU does), a thread and a descriptor stay until the process ends.
+    ///
     /// # Errors
     /// `Tag` and `Queues` before anything is done, `Socket`, `Device`, `Thread`, and `FrontEnd`. An
     /// answer that is refused, or a chain that isn't one, is no error: the log has a line (crate
