@@ -48,7 +48,7 @@ void refusals(struct replaced *r) {
     printf("%d refused, each with its reason\n", r->refused);
 }
 
-/* New daemons that are killed at any moment: the one that serves continues, whichever that is. */
+/* New daemons that are killed at any moment: the old or the new one continues to serve. */
 void kills(struct replaced *r, int count) {
     int killed = 0;
     stream_begin(&r->stream, r->front, 8, false);

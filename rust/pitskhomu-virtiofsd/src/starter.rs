@@ -94,7 +94,7 @@ impl Starter {
             Ok(systemd) => Some(systemd),
             Err(e) => {
                 warn!(
-                    "systemd isn't told when this daemon serves: {}: {e}",
+                    "systemd can't be notified that this daemon serves: {}: {e}",
                     Path::new(&name).display()
                 );
                 None
@@ -109,8 +109,8 @@ impl Starter {
             let process = self.process.map(|process| format!("\nMAINPID={process}"));
             let message = format!("READY=1{}", process.unwrap_or_default());
             match systemd.write_all(message.as_bytes()) {
-                Ok(()) => debug!("systemd is told that this daemon serves"),
-                Err(e) => warn!("systemd isn't told that this daemon serves: {e}"),
+                Ok(()) => debug!("systemd was notified that this daemon serves"),
+                Err(e) => warn!("systemd wasn't notified that this daemon serves: {e}"),
             }
         }
         if let Some(mut foreground) = self.foreground.take() {

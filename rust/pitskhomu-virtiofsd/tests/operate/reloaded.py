@@ -166,7 +166,7 @@ def killed(old, program):
     others = old.systemd.fill()
     with open(old.log, "a", encoding="utf-8") as log:
         command = subprocess.Popen(words, stderr=log, env=old.systemd.environment)
-    time.sleep(1) # it waits, since systemd isn't told yet
+    time.sleep(1) # it waits, since systemd wasn't notified yet
     command.send_signal(signal.SIGKILL)
     must(command.wait(PATIENCE) == -signal.SIGKILL, "it has ended before")
     old.systemd.skip(others)
